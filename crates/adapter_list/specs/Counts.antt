@@ -26,7 +26,8 @@ pub record HasGrown (old new : List Listed × List ℕ) : Type 0 where
   pub as_many : length new.1 ≡ length old.1
   pub no_fewer : (k : ℕ) → slice_index old.1 k ≤ slice_index new.1 k
 
--- the adapter at index k has capacity for n notifications and one more for each of its targets; if n is above 0, it can also count them all
+-- the adapter at index k has capacity for n notifications and for a last notification from each of its targets; if n is above 0, the
+-- adapter can also count all these notifications
 pub record IsReadyFor (rs : List Listed) (ps : List ℕ) (k n : ℕ) : Type 0 where
   pub places : k < length ps → n + targets_at rs k ≤ slice_index ps k
   pub countable : 0 < n → told_at_ordinal rs k + (n + targets_at rs k) < 2 ^ 64
@@ -47,12 +48,12 @@ pub record IsFirstFull (rs : List Listed) (ps : List ℕ) (cs : List (ℕ × Not
 abbrev pub ordinals : List (ℕ × Notice) → List ℕ
 ordinals cs = map (λ c. c.0) cs
 
--- whether the index k is greater than the index before it; true if there is none before it
+-- whether the index k is greater than the index before it, or is the first index
 abbrev pub is_after : Option ℕ → ℕ → Bool
 is_after None k = true
 is_after (Some j) k = nat_lt j k
 
--- whether each index is greater than the index before it
+-- whether each index of the list is greater than the index before it; `before` is the index before the list, none if there is none
 abbrev pub ascends : Option ℕ → List ℕ → Bool
 ascends before [] = true
 ascends before (k ∷ ks) = is_after before k && ascends (Some k) ks

@@ -30,16 +30,16 @@ is_heard up x rs = list_any (hears_node up x) rs
 abbrev pub IsUnheard : Above → List Notice → List Listed → Type 0
 IsUnheard up ns rs = AllByRecursion (λ n. is_heard up n.notifier rs ≡ false) ns
 
--- whether an adapter has one of some objects as a target
+-- whether an adapter has any of the objects os as a target
 abbrev pub is_touched : List ObjectNo → Listed → Bool
 is_touched os r = list_any (λ o. has_target (node.Object o) r) os
 
--- the indexes of the adapters that have one of some objects as a target
+-- the indexes of the adapters that have any of the objects os as a target
 abbrev pub touched_indexes : List ObjectNo → List Listed → List ℕ
 touched_indexes os rs = ordinals_from (is_touched os) 0 rs
 
--- what is remembered from the last search is still right: no node is remembered, or a node with exactly the adapters that get its
--- notifications
+-- what is remembered from the last search is still right: either no node is remembered, or the remembered adapters are exactly those that
+-- get the notifications of the remembered node
 abbrev pub AreKnown : Above → List Listed → Hearers → Type 0
 AreKnown up rs h = IfSome h.node (λ x. h.ordinals.items ≡ hearers up x rs)
 

@@ -135,8 +135,9 @@ impl<A: Adapter> Going<A> {
         room.pop().map(|one| one.1)
     }
 
-    /// Takes one target from an adapter, and gives the adapter back if that was its last target. Takes no memory, since the adapter is
-    /// given back through an empty list that has capacity for all adapters.
+    /// Takes one target from an adapter, and gives the adapter back if that was its last target. If the node is no target of the adapter,
+    /// the result is `None`, and nothing changes. Takes no memory: the adapter is given back through `room`, an empty list that has
+    /// capacity for all adapters.
     pub(crate) fn detach(
         &mut self,
         no: AdapterNo,
@@ -203,15 +204,15 @@ fn drop_target(targets: &mut VecDeque<Target>, node: Node)
     }
 }
 
-/// The index of a node in a list of targets. The list is searched from the front.
+/// The index of the first target at `node` in a list of targets; `None` if no target is at `node`. The list is searched from the front.
 fn index_among(targets: &VecDeque<Target>, node: Node) -> Option<usize>
     ensures { result ≡ position (is_at node) targets.now.items }
 {
     targets.iter().position(|target| target.node == node)
 }
 
-/// Moves the adapters that have no targets from a list to the end of `released`, in their order, and returns the list of the other
-/// adapters. The list is rotated once in its own memory.
+/// Moves the adapters that have no targets out of `attached` and to the end of `released`, in attach order. Returns the list of the other
+/// adapters. `attached` is rotated once in its own memory.
 fn split<A: Adapter>(
     attached: Vec<Attached<A>>,
     released: &mut Vec<(AdapterNo, A)>,

@@ -17,13 +17,14 @@ pub struct Leaving<A> {
     /// The targets that are taken away, adapter by adapter in attach order. The targets of one adapter have the order in which the adapter
     /// got them.
     release: Release<A>,
-    /// An empty list, with capacity for the notifications of a chain and then for the last notification from each of these targets.
+    /// An empty list. It has capacity for a copy of each notification of a chain for each adapter that gets the notification, and for the
+    /// last notification from each target in `release`.
     told: Vec<(AdapterNo, Notice)>,
 }
 
 impl<A: Adapter> Leaving<A> {
-    /// The targets `spots`, with capacity for `chain_told` notifications of a chain and then for the last notification from each target;
-    /// `None` if there are no targets in `spots`. Fails only if memory is refused.
+    /// The targets `spots`, with capacity for `chain_told` copies of a chain's notifications and for the last notification from each
+    /// target. `None` if there are no targets in `spots`. Fails only if memory is refused.
     #[inline(always)]
     pub fn with_room(
         alloc: Global,
@@ -42,8 +43,8 @@ impl<A: Adapter> Leaving<A> {
         Ok(Some(Box::new(alloc, Leaving { release, told })?))
     }
 
-    /// Takes the targets from their adapters. Returns the notifications `chain_told` of a chain with the last notifications from these
-    /// targets after them, and the adapters that have no target left. Takes no memory.
+    /// Takes the targets from their adapters. Returns one list of notifications, and the adapters that have no target left. In the list the
+    /// notifications `chain_told` of a chain come first, and the last notifications from these targets come after them. Takes no memory.
     pub(crate) fn let_go(
         self,
         adapters: &mut AdapterList<A>,
@@ -62,7 +63,7 @@ impl<A: Adapter> Leaving<A> {
     }
 }
 
-/// Moves all notifications into a list that has capacity for them.
+/// Moves all notifications of `from` to the end of `into`, which has capacity for them.
 fn move_all(from: Vec<(AdapterNo, Notice)>, into: &mut Vec<(AdapterNo, Notice)>)
     requires room { vec_len into.old + length from.items ≤ vec_capacity into.old }
     ensures items { into.new.items ≡ into.old.items ++ from.items }

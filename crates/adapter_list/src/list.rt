@@ -38,7 +38,7 @@ pub struct AdapterList<A: Adapter> {
     pub(crate) numbers: IndexSet<AdapterNo>,
     /// For each node the adapters that have the node as a target, in attach order.
     pub(crate) by_target: TargetLists,
-    /// For each object whether it is a target of any adapter.
+    /// For each object, by its number, whether it is a target of any adapter. An object past the end of the list is no target.
     pub(crate) marks: Vec<bool>,
     /// How many targets there are.
     pub(crate) targets_len: usize,

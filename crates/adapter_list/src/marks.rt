@@ -6,7 +6,8 @@ ghost use Rattle.adapter_list.specs.Targets.{AreSameMarks, AreSetAt, HasMarkRoom
 use mm_types::Node;
 use std::alloc::AllocError;
 
-/// Whether a node is marked. Every resource counts as marked: at most one resource is above a node, so no mark is needed.
+/// Whether a node is marked. Every resource counts as marked, so resources need no marks. This costs little, since at most one resource is
+/// above a node.
 pub(crate) fn is_marked(marks: &[bool], node: Node) -> bool
     ensures { result ≡ is_marked_in marks.now node }
 {
@@ -61,7 +62,8 @@ pub(crate) fn set_mark(marks: &mut Vec<bool>, node: Node, value: bool)
     }
 }
 
-/// Marks the object with the number `number`, or takes its mark away.
+/// Marks the object with the number `number` if `value` is true, or else takes its mark away. An object past the end of `marks` has no mark
+/// to take away.
 fn set_mark_at(marks: &mut Vec<bool>, number: usize, value: bool)
     requires { value ≡ true → number < length marks.old.items }
     ensures { (i : ℕ) → get_or marks.new.items i false ≡ (if nat_eq number i then value else get_or marks.old.items i false) }

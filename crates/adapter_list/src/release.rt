@@ -50,7 +50,8 @@ impl<A> Release<A> {
         self.spots.len()
     }
 
-    /// The targets, and the capacity for the notifications and for the adapters.
+    /// The targets; an empty list with capacity for their last notifications; and an empty list with capacity for the adapters that are
+    /// given back.
     pub(crate) fn into_parts(
         self,
     ) -> (

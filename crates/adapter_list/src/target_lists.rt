@@ -1,4 +1,4 @@
-//! For each node, the adapters that have the node as a target, so that these are found without a look at other adapters.
+//! For each node, the adapters that have the node as a target. So the adapters of a node are found without a look at other adapters.
 ghost use Rattle.std.specs.Prelude.{◌≡◌, ◌≤◌, ◌<◌, [], length, insert, remove, position, OnOk, OnErr, if◌then◌else◌};
 ghost use Rattle.mm_types.specs.Same.{same_node};
 ghost use Rattle.mm_types.specs.declared.numbers.Node.{Node};
@@ -116,7 +116,7 @@ impl TargetLists {
         }
     }
 
-    /// Takes out the adapter at an index among the adapters of a node, which has other adapters too.
+    /// Takes out the adapter at an index among the adapters of a node. The node must have at least two adapters.
     fn remove_one(&mut self, node: Node, index: usize)
         requires within { index < length (entries_in self.old node) }
         requires more { 1 < length (entries_in self.old node) }

@@ -17,7 +17,7 @@ number_view (Float x) = float x
 abbrev pub members_of : List (Bor (List ℕ) × Data) → Members
 members_of ms = fold (λ found m. put m.0.now m.1 found) no_members ms
 
--- the data of one level of a value, given the data of the values inside
+-- the data of a value, given the data of the values directly inside it
 abbrev pub view_step : Json-F Data → Data
 view_step Json-F.Null = null
 view_step (Json-F.Bool b) = boolean b

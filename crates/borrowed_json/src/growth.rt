@@ -1,4 +1,4 @@
-//! Adds a member to an object while the object is read.
+//! Puts a value at a key of an object while the object is read.
 ghost use Rattle.std.specs.Prelude.{◌≡◌, ◌<◌, ◌≤◌, ◌+◌, IfSome, OnOk, drop, length, not, take, true};
 ghost use Rattle.std.specs.List.{list_all};
 ghost use Rattle.std.specs.Str.{bytes_eq};
@@ -27,8 +27,9 @@ fn last_of(members: Members, key: &str) -> Option<usize>
     None
 }
 
-/// Puts a value at a key of an object. The members of the object are the members from the index `base` on. If the key is among the last
-/// `SEARCHED` members of the object, the new value replaces the value there; otherwise the key and the value are added as the last member.
+/// Puts a value at a key of an object. `members` has the members of the object from the index `base` on; before that index it has members
+/// of outer objects. If the key is among the last `SEARCHED` members of the object, the new value replaces the value there; otherwise the
+/// key and the value are added as the last member.
 #[inline(always)]
 pub(crate) fn put<'t>(
     members: &mut Vec<(&'t str, Json<'t>)>,

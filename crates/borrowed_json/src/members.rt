@@ -20,7 +20,7 @@ fn all_keys_among(members: Members, names: &[&str]) -> bool
     members.iter().all(|member| is_one_of(member.0, names))
 }
 
-/// Whether the keys of an object are all among some names. Takes no memory.
+/// Whether all keys of an object are among `names`. Takes no memory.
 pub fn has_only_keys(members: Members, names: &[&str]) -> bool
     ensures { result ≡ only_keys (map (λ n. n.now) names.now) (members_view members.now) }
 {

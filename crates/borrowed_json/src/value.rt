@@ -16,33 +16,33 @@ pub enum Json<'t> {
     Object(Members<'t>),
 }
 
-/// The members of an object, in the order in which they are written, except that a repeated key takes the place of the earlier member with
-/// that key if this member is among the last 256 so far. If a key still comes twice, its last value counts.
+/// The members of an object, in the order in which they are written. If a key is repeated, and the earlier member with that key is among
+/// the last 256 members so far, the new value replaces the value of the earlier member. If a key still comes twice, its last value counts.
 pub type Members<'t> = &'t [(&'t str, Json<'t>)];
 
 impl<'t> Json<'t> {
-    /// Whether it is null. Takes no memory.
+    /// Whether the JSON value is null. Takes no memory.
     pub fn is_null(&self) -> bool
         ensures { result ≡ is_some (as_null (view self.now)) }
     {
         matches!(self, Json::Null)
     }
 
-    /// Whether it is true or false. Takes no memory.
+    /// Whether the JSON value is true or false. Takes no memory.
     pub fn is_boolean(&self) -> bool
         ensures { result ≡ is_some (as_bool (view self.now)) }
     {
         matches!(self, Json::Bool(_))
     }
 
-    /// Whether it is an array. Takes no memory.
+    /// Whether the JSON value is an array. Takes no memory.
     pub fn is_array(&self) -> bool
         ensures { result ≡ is_some (as_array (view self.now)) }
     {
         matches!(self, Json::Array(_))
     }
 
-    /// Whether it is an object. Takes no memory.
+    /// Whether the JSON value is an object. Takes no memory.
     pub fn is_object(&self) -> bool
         ensures { result ≡ is_some (as_object (view self.now)) }
     {

@@ -1,18 +1,19 @@
-//! Why a case or the list of commands can't be run.
+//! Why a case can't be run, or why the program stops.
 use mm_types::{MetaFault, Refused};
 use std::alloc::{AllocError, AllocFailed};
 use std::{fmt, io};
 
-/// Why a case or the list of commands can't be run.
+/// Why a case can't be run, or why the program stops.
 #[derive(Clone, Copy)]
 pub enum Fault {
     /// A mark is badly written.
     Mark,
-    /// The metamodel's file can't be read.
+    /// A file can't be read: the file of a case's metamodel, or a file of cases.
     Unreadable,
     /// The arguments can't be read, or nothing can be written.
     Stream,
-    /// The metamodel of books, a command before the list, or a command on the books of the snapshot is refused: the program is wrong.
+    /// Something is refused that must be accepted: the metamodel of books, a command that prepares the list of commands, or a command on
+    /// the books of the snapshot. Then this program is wrong.
     Refused,
     /// Memory was refused.
     Memory,

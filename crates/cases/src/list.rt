@@ -21,7 +21,7 @@ const BOOKS: &str =
     r#"{"classes":[{"name":"Book","features":[{"name":"name","kind":"attribute","type":"EString"}]}]}"#;
 
 /// Does commands by one call of the repository, and prints the outcome of each command. If there is no memory for the outcomes, prints the
-/// commands, which come back.
+/// commands, which the repository gives back.
 fn do_all<L: LinkStore, A: Adapter, W: Write>(
     writer: &mut W,
     repository: &mut Repository<L, A>,
@@ -88,7 +88,7 @@ pub(crate) fn run_list<W: Write>(alloc: Global, writer: &mut W) -> Result<(), Fa
 }
 
 /// Makes `count` books in a resource, takes a snapshot of the resource, and names the books. Replays the notifications of these changes on
-/// the snapshot. If the snapshot is then the same as a new snapshot, prints how many nodes it has, else `None`.
+/// the snapshot. If the snapshot is then the same as a new snapshot, prints how many nodes the snapshot has; otherwise prints `None`.
 pub(crate) fn follow<W: Write>(alloc: Global, writer: &mut W, count: u32) -> Result<(), Fault> {
     let meta = check_document(alloc, BOOKS.as_bytes())?;
     let mut repository: Repository<SlotStore, Counter> = Repository::new(alloc, meta);

@@ -5,9 +5,10 @@
 //! expected and what was given; then the exit status is 1. The last line counts the cases.
 //!
 //! With the word `commands`, the program does a list of commands by one call of a repository, and prints the outcome of each command. If
-//! there is no memory for the outcomes, it prints the commands that come back. Then it prints what the repository has, and a snapshot on
-//! which a notification was replayed. `tests/run_refused_memory` runs the program with this word once for each allocation that the program
-//! makes, and refuses that allocation. No script makes this call, and no test function can refuse memory.
+//! there is no memory for the outcomes, it prints all the commands, which the repository gives back. Then it prints what the repository
+//! has, and a snapshot on which a notification was replayed. `tests/run_refused_memory` runs the program with this word once for each
+//! allocation that the program makes, and refuses that allocation. The cases can't test this: no script runs a list of commands by one
+//! call, and no test function can refuse memory.
 //!
 //! With a number N as its word, the program takes a snapshot of a resource with N books, names each book, and replays the notifications on
 //! the snapshot. `bench/measure` runs the program with such a word.
@@ -57,8 +58,8 @@ fn read_file(rt: &HostRuntime, path: &str) -> Result<Vec<u8>, Fault> {
     }
 }
 
-/// Whether a case gives what it expects. If not, writes what was expected and what was given; `part` is the name of the store over which
-/// the script ran, or `no store`.
+/// Whether `given`, what a case gave, is what the case expects. If not, writes the name of the case, `part`, what was expected and what was
+/// given. `part` is the name of the store over which the script ran, or `no store`.
 fn gives_expected<W: Write>(
     writer: &mut W,
     case: &Case<'_>,
@@ -191,7 +192,7 @@ fn run_word<W: Write>(
     Ok(run_file(rt, writer, word, tally)?)
 }
 
-/// Does what the arguments ask for; returns whether each case passes.
+/// Does what the arguments ask for, and prints how many cases passed and failed. Returns whether no case failed.
 fn run_words<W: Write>(rt: &HostRuntime, writer: &mut W) -> Result<bool, Fault> {
     let mut tally = Tally {
         passed: 0,

@@ -35,8 +35,8 @@ fn printed<L: LinkStore, A: Adapter>(
     }
 }
 
-/// The outcome of a script with adapters: the fault of its metamodel; or what the script prints, and then the fault that stopped the
-/// script, if a fault stopped it.
+/// The outcome of a script that can attach the adapters `boxes`. If the metamodel has a fault, the outcome is this fault. Otherwise it is
+/// what the script prints, and then the fault that stopped the script, if a fault stopped it.
 fn given<L: LinkStore, A: Adapter>(
     alloc: Global,
     metamodel: &[u8],

@@ -33,7 +33,8 @@ use Rattle.proxies.specs.declared.resolved_proxy.ResolvedProxy.{ResolvedProxy}
 
 ---------------------------------------------------------------- what a proxy is resolved to
 
--- the counterpart of a proxy: the first proxy at the opposite end that has the referring object at its address
+-- the counterpart of the proxy at p, which leads to the object o. It is the first proxy at the opposite end that leads back to the
+-- referring object. None if there is no such proxy, or if the reference has no opposite
 abbrev pub counterpart_by : Reading → FirstLeads → ProxySite → ObjectNo → Option Counterpart
 counterpart_by r t p o =
     option_and_then (λ d. option_map (λ j. record { end = d; index = j }) (index_at t (reference_key o d.feature p.object.0))) (opposite_end r (end_of p) o)
@@ -57,8 +58,9 @@ target_by r g t x = option_and_then (λ o. unless_refused r g x.site (found_by r
 abbrev pub joint : ProxySite → ResolvedProxy → Joint
 joint p x = record { site = p; target = x }
 
--- whether k is the key of the counterpart's location; and `is_far_link`, whether k is the key of the object that is at this location after
--- the resolve
+-- x is the target of a proxy, and c is the counterpart of the proxy. `is_far_site`: whether k is the key of the location of c.
+-- `is_far_link`: p is the location of the proxy. A resolve of the proxy replaces c by the object that has the proxy. Whether k is the key
+-- of the reference that has c, with the number of this object
 abbrev pub is_far_site : ResolvedProxy → Counterpart → ReferenceKey → Bool
 is_far_site x c k = same_reference_key k (reference_key x.object c.end.feature c.index)
 
@@ -96,15 +98,16 @@ edits_by r j =
 abbrev pub told_by : Joint → List FeatureChange
 told_by j = changes_of_resolve (end_of j.site) j.site.index j.target
 
--- the proxies js were resolved, and `ends` has the values of each end after that. Exactly the proxies at the locations in `gone` are gone.
--- A reference now has an object as a value exactly if it had the object before, or if `linked` has the key of the reference and the object
+-- g is what is known after the proxies `js` were resolved, and `ends` has the values of each end then. Exactly the proxies at the locations
+-- in `gone` are gone. A reference has an object as a value in `ends` exactly in two cases: it had this object before the first resolve, or
+-- `linked` has the key of the reference and the object
 pub record IsKnown (r : Reading) (js : List Joint) (ends : End → List Value) (g : Progress) : Type 0 where
   pub joints : g.joints.items ≡ js
   pub gone : (p : ProxySite) → is_proxy_site (record r { values = ends }) p ≡ (is_proxy_site r p && not (has g.gone (key_of p)))
   pub linked : (o : ObjectNo) (f : FeatureNo) (b : ObjectNo) → (let e = at_end (node.Object o) f in
       has_value (ends e) (value.Object b) ≡ (has_value (r.values e) (value.Object b) || has g.linked (reference_key o f b.0)))
 
--- the proxies at the locations ps were resolved one after another; a proxy that is refused was skipped
+-- g is what is known after the locations `ps` were gone through in order: each proxy was resolved, or skipped if its resolve is refused
 abbrev pub IsProgress : Reading → List ProxySite → Progress → Type 0
 IsProgress r ps g = IsKnown r (map joint_of (resolutions r ps)) (values_left r ps) g
 

@@ -42,7 +42,8 @@ abbrev pub target_in : Finding → Option ResolvedProxy
 target_in (finding.Target x) = Some x
 target_in _ = None
 
--- for a resolve of all proxies, how many proxies are resolved and how many are left, among what planning finds
+-- how many proxies a resolve of all proxies resolves and how many it leaves, taken from what planning finds; none if planning finds
+-- something else
 abbrev pub resolved_in : Finding → Option Resolved
 resolved_in (finding.Counts n) = Some n
 resolved_in _ = None
@@ -60,11 +61,11 @@ pub record IsPlanOf (is_heard : Bool) (s : Model) (c : Change) (p : Planned) : T
   pub values_made : values.values_after_edits s.values p.values ≡ (model_after s c).values
   pub tells : p.chain ≡ (if is_heard then chain (reading s) c else [])
 
--- the plan that edits only values, with the notifications that an adapter may have to get
+-- the plan with the edits `vs` of values and the notifications `ns`, and without edits of links
 abbrev pub of_values : List ValueEdit → List Notice → Planned
 of_values vs ns = record { finding = finding.Nothing; edits = []; values = vs; chain = ns }
 
--- the plan that edits only links, with the notifications that an adapter may have to get
+-- the plan with the edits `es` of links and the notifications `ns`, and without edits of values
 abbrev pub of_links : List Edit → List Notice → Planned
 of_links es ns = record { finding = finding.Nothing; edits = es; values = []; chain = ns }
 
@@ -72,8 +73,8 @@ of_links es ns = record { finding = finding.Nothing; edits = es; values = []; ch
 abbrev pub looks_first : Change → Bool
 looks_first c = resolves_one c
 
--- the result of planning: the plan, or the refusal that applies. The result is `Memory` only if no refusal applies, or if `looks_first` is
--- true of the change
+-- the result of planning: the plan, or the refusal that applies. The result is `Memory` only if no other refusal applies, or if
+-- `looks_first` is true of the change
 abbrev pub Plans : Bool → Result Planned Refused → Model → Change → Type 0
 Plans is_heard (Ok p) s c = IsPlanOf is_heard s c p
 Plans is_heard (Err r) s c = IsFalse (is_memory_refusal r && looks_first c) → late_refusal (reading s) c ≡ (if is_memory_refusal r then None else Some r)

@@ -10,7 +10,7 @@ use models::ModelRef;
 use removal::Removal;
 use std::alloc::{AllocError, Global};
 
-/// The removal of the object that a change destroys, if it destroys one. Fails only if memory is refused.
+/// The removal of the object that a change deletes; `None` if the change is no deletion. Fails only if memory is refused.
 pub(crate) fn removal_of<L: LinkStore>(
     alloc: Global,
     model: &ModelRef<L>,

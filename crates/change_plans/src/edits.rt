@@ -28,8 +28,9 @@ use removal::{LinkEnd, Removal};
 use resource_docs::Doc;
 use std::alloc::{AllocError, Global};
 
-/// The edits of links that make a change, given the links that the change cuts. The change must not be a resolve of all proxies, whose
-/// edits are made in the module `resolving_all`.
+/// The edits of links that a change makes. `link_ends` names the links that the change cuts, and `target` is the target of the proxy that
+/// the change resolves, if it resolves one. The change must not be a resolve of all proxies: its edits are made in the module
+/// `resolving_all`.
 pub(crate) fn link_edits<L: LinkStore>(
     alloc: Global,
     model: &ModelRef<L>,
@@ -94,7 +95,7 @@ pub(crate) fn push_joining<L: LinkStore>(
     Ok(())
 }
 
-/// The edit that moves a new link, at the opposite end, from the last index to the index of the proxy that the link replaces.
+/// A new link is put last at its opposite end. The edit that then moves it to the index of `other`, the counterpart that it replaces.
 fn back_edit<L: LinkStore>(model: &ModelRef<L>, other: Counterpart) -> Edit
     ensures { result ≡ e.back_edit (reading model.now) other }
 {
@@ -105,7 +106,8 @@ fn back_edit<L: LinkStore>(model: &ModelRef<L>, other: Counterpart) -> Edit
     }
 }
 
-/// The edit that a set, an addition or a move at a reference makes after its cuts, if it makes one; `None` for any other change.
+/// The edit that a set, an addition or a move makes at a reference, after its cuts. `None` if a set or an addition makes no new link, and
+/// for any other change.
 fn made_edit<L: LinkStore>(model: &ModelRef<L>, change: &Change) -> Option<Edit>
     ensures { result ≡ e.made_edit (reading model.now) change.now }
 {
@@ -123,7 +125,8 @@ fn made_edit<L: LinkStore>(model: &ModelRef<L>, change: &Change) -> Option<Edit>
     }
 }
 
-/// The edit that sets a reference to an object. `None` if the end has the value already, if the value is no object, or for an attribute.
+/// The edit that sets a reference to an object. `None` if the value is no object, if the end has the value already, or if the feature is an
+/// attribute.
 fn set_put<L: LinkStore>(model: &ModelRef<L>, end: End, value: &Value) -> Option<Edit>
     ensures { result ≡ e.made_edit (reading model.now) (At end (Set value.now)) }
 {
@@ -134,7 +137,8 @@ fn set_put<L: LinkStore>(model: &ModelRef<L>, end: End, value: &Value) -> Option
     }
 }
 
-/// The edit that adds an object to a reference. `None` if the list has the value already, if the value is no object, or for an attribute.
+/// The edit that adds an object to a reference. `None` if the value is no object, if the list has the value already, or if the feature is
+/// an attribute.
 fn add_put<L: LinkStore>(
     model: &ModelRef<L>,
     end: End,
@@ -333,7 +337,8 @@ pub(crate) fn set_edits<L: LinkStore>(
     put_list(alloc, end, NewValues::one(value), flag)
 }
 
-/// The edit that replaces the values of an attribute by `list`, and its set flag by `flag`; none for a resource, which has no attributes.
+/// The edit that replaces the values of an attribute by `list`, and the set flag of the attribute by `flag`. No edit if the end is at a
+/// resource, since resources have no attributes.
 fn put_list(alloc: Global, end: End, list: NewValues, flag: bool) -> ValuePlan
     ensures { result ≡ put_values end list flag }
 {

@@ -152,8 +152,8 @@ impl Progress {
     }
 }
 
-/// The proxy of the same link at the opposite end, if there is one: the first proxy there that has the referring object at its address.
-/// Takes no memory.
+/// The counterpart of the proxy at `site`, which leads to `object`. The counterpart is the first proxy at the opposite end that leads back
+/// to the referring object. `None` if there is no such proxy, or if the reference has no opposite. Takes no memory.
 fn counterpart<L: LinkStore>(
     model: &ModelRef<L>,
     first: &FirstLeads,

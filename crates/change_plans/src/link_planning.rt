@@ -21,8 +21,9 @@ use models::ModelRef;
 use notice_chain::Chain;
 use std::alloc::Global;
 
-/// The edits of links that a change makes, or the first refusal that planning finds. Adds the notifications to `chain`, unless no adapter
-/// may have to get them. This is `plan` for an act at a reference, other than a resolve.
+/// The edits of links that a change makes, or the first refusal that planning finds. Adds the notifications to `chain` if `is_heard`, that
+/// is, if an adapter may have to get them. This is `plan` for an act at a reference, other than a resolve. If memory is refused, `chain`
+/// may have some of the notifications.
 pub fn plan_links<L: LinkStore>(
     alloc: Global,
     model: &ModelRef<L>,
@@ -43,8 +44,9 @@ pub fn plan_links<L: LinkStore>(
     Ok(edits)
 }
 
-/// The link that a set puts, if its plan does nothing but put this link; otherwise `None`. The plan does nothing else if a reference
-/// without a value is set to an object, and the set is not refused and displaces no link. Takes no memory.
+/// The link that a set puts, if the plan of the set puts this link and does nothing else; otherwise `None`. The result is a link exactly if
+/// four conditions hold: the end is a reference without a value; the value is an object; the set is not refused; and the set displaces no
+/// link. Takes no memory.
 #[inline(always)]
 pub fn lone_set<L: LinkStore>(model: &ModelRef<L>, end: End, value: &Value) -> Option<NewLink>
     requires asked { early_refusal (reading model.now) (At end (Set value.now)) ≡ None }
@@ -55,8 +57,9 @@ pub fn lone_set<L: LinkStore>(model: &ModelRef<L>, end: End, value: &Value) -> O
     put_of_set(model, end, value)
 }
 
-/// The link that an addition puts, if its plan does nothing but put this link; otherwise `None`. The plan does nothing else if an object is
-/// added to a reference whose list lacks the object, and the addition is not refused and displaces no link. Takes no memory.
+/// The link that an addition puts, if the plan of the addition puts this link and does nothing else; otherwise `None`. The result is a link
+/// exactly if four conditions hold: the end is a reference; the value is an object that the list lacks; the addition is not refused; and
+/// the addition displaces no link. Takes no memory.
 #[inline(always)]
 pub fn lone_add<L: LinkStore>(
     model: &ModelRef<L>,
@@ -117,8 +120,8 @@ fn put_of_add<L: LinkStore>(
     Some(put_at(model, end, model.position_for(end, index), *object))
 }
 
-/// Whether an addition of an object makes no link. The addition must displace no link. So at a containment the object has no container: the
-/// list does not have the object, and is not searched.
+/// Whether an addition of an object makes no link. The addition must displace no link. So if the feature is a containment, the object has
+/// no container. Then the list does not have the object, and is not searched.
 #[inline(always)]
 fn adds_no_link<L: LinkStore>(
     model: &ModelRef<L>,

@@ -33,8 +33,8 @@ pub(crate) fn load_refusal<L: LinkStore>(
     None
 }
 
-/// Adds to a chain the notifications when an end without values gains the roots of a document, in the order of the roots. The first object
-/// of the document gets the number `next`.
+/// Adds notifications to a chain, one for each root of a document, in the order of the roots: `end` gains the root. `end` has no values
+/// before. The first object of the document gets the number `next`.
 pub(crate) fn root_notices(
     next: usize,
     end: End,

@@ -22,8 +22,8 @@ use crate::planned::{Finding, Planned};
 use crate::resolved_proxy::target_of;
 use crate::resolving_all::all_resolved;
 use handshake::{
-    Act, Change, cut_link_ends, feature_changes, gain_refusal, has_already, is_repeat,
-    link_refusal, lost_notices, notices,
+    Act, Change, cut_link_ends, gain_refusal, has_already, is_repeat, link_refusal, lost_notices,
+    notices,
 };
 use links::{LinkStore, Plan};
 use mm_types::{End, FeatureNo, ObjectNo, Refused, Text, Value, limits};
@@ -37,15 +37,16 @@ use std::alloc::{AllocError, Global};
 /// The plan of a change that is not refused early (`early_refusal`), or the first refusal that planning finds. The notifications are made
 /// only if `is_heard`, that is, if an adapter may have to get them.
 ///
-/// `WrongType` if the value is not of the feature's type. `TextLength` if a text has more than 65,535 bytes. `Index` if no value is at an
-/// index, or if there would be a gap before a value that is put in. `Duplicate` if a unique list has the value that is added at an index.
-/// `Bound` if an end that has to gain a value is full. `Recursive` if an object would become a part of itself. `Limit` if 1,000,000 objects
-/// or 100,000 resources were made, or if an end that has to gain a value has 1,000,000 values. `ResourceExists` if a resource has the URI.
+/// `WrongType` if the value is not of the feature's type. `TextLength` if a text has more than 65,535 bytes. `Index` if a removal, a move
+/// or a resolve names an index at which no value is, or if an addition would leave a gap before the new value. `Duplicate` if a unique list
+/// has the value that is added at an index. `Bound` if an end that has to gain a value is full. `Recursive` if an object would become a
+/// part of itself. `Limit` if 1,000,000 objects or 100,000 resources were made, or if an end that has to gain a value has 1,000,000 values.
+/// `ResourceExists` if a resource has the URI.
 ///
 /// For a proxy to be resolved: `WrongType` if the feature is an attribute, or if the object at the address of the proxy is not of the
 /// feature's type. `Duplicate` if the end has the object at the address already. `NotProxy` if the value at the index is no proxy.
 /// `Unloaded` if no resource has the URI of the proxy. `Unresolved` if no object is at the address. `Unmatched` if the reference has an
-/// opposite, and no proxy at the opposite end has the referring object at its address.
+/// opposite, but no proxy at the opposite end leads back to the referring object.
 ///
 /// For a document: `Limit` if more than 1,000,000 objects would then have been made in all. `NotEmpty` if the resource has roots.
 ///
@@ -98,8 +99,8 @@ fn made<L: LinkStore>(
     })
 }
 
-/// The `Finding` of a change that doesn't resolve all proxies, made of the removal or of the target that was found. A change that destroys
-/// objects resolves no proxy, so at most one of the two arguments is `Some`.
+/// The `Finding` of a change that doesn't resolve all proxies: the removal or the target that was found, or `Nothing`. A change that
+/// destroys objects resolves no proxy, so at most one of the two arguments is `Some`.
 fn finding(removal: Option<Removal>, target: Option<ResolvedProxy>) -> Finding
     requires one { is_some removal ≡ true → target ≡ None }
     ensures removal { removal_in result ≡ removal }
@@ -113,8 +114,9 @@ fn finding(removal: Option<Removal>, target: Option<ResolvedProxy>) -> Finding
     }
 }
 
-/// The edits of links and of values, and the notifications, of a change that is not refused and doesn't resolve all proxies. Fails only if
-/// memory is refused.
+/// For a change that is not refused and doesn't resolve all proxies: its edits of links, its edits of values, and its notifications. The
+/// notifications are made only if `is_heard`. `removal` has the objects that the change destroys, if there are any. `target` is the target
+/// of the proxy that the change resolves, if it resolves one. Fails only if memory is refused.
 fn edits_and_notices<L: LinkStore>(
     alloc: Global,
     model: &ModelRef<L>,
@@ -140,7 +142,8 @@ fn edits_and_notices<L: LinkStore>(
     Ok((edits, values, chain))
 }
 
-/// The edits of links that make a change. Adds to `chain` the notifications of the change, unless no adapter may have to get them.
+/// The edits of links that a change makes. Adds the notifications of the change to `chain` if `is_heard`, that is, if an adapter may have
+/// to get them. Fails only if memory is refused.
 pub(crate) fn links_and_notices<L: LinkStore>(
     alloc: Global,
     model: &ModelRef<L>,
@@ -278,7 +281,7 @@ pub(crate) fn add_late_refusal<L: LinkStore>(
     }
 }
 
-/// Whether an index is past the position after the last value of an end; false without an index.
+/// Whether a value that is added at `index` would leave a gap after the last value of an end; false if `index` is `None`.
 fn is_past<L: LinkStore>(model: &ModelRef<L>, end: End, index: Option<u32>) -> bool
     ensures { result ≡ not (nat_le (position_for (reading model.now) end index) (refusals.count_at (reading model.now) end)) }
 {
@@ -365,6 +368,5 @@ pub(crate) fn add_notices<L: LinkStore>(
         let roots = contents_end(model.meta(), *resource);
         return root_notices(model.next(), roots, doc.roots.as_slice(), chain);
     }
-    let feature_changes = feature_changes(alloc, model, change, link_ends, target)?;
-    notices(alloc, model, feature_changes, chain)
+    notices(alloc, model, change, link_ends, target, chain)
 }

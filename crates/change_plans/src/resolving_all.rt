@@ -1,17 +1,18 @@
 //! The plan that resolves all proxies.
-ghost use Rattle.std.specs.Prelude.{◌≡◌, ◌++◌, filter, flat_map, length, not, IfOk, OnOk};
+ghost use Rattle.std.specs.Prelude.{◌≡◌, ◌++◌, filter, flat_map, length, map, not, IfOk, OnOk};
 ghost use Rattle.models.specs.Model.{reading};
 ghost use Rattle.change_plans.specs.Joining as spec;
 ghost use Rattle.proxies.specs.Keys.{has, key_of};
 ghost use Rattle.proxies.specs.Leads.{leads as leads_of};
 ghost use Rattle.change_plans.specs.Plans.{IsPlanOf};
+ghost use Rattle.handshake.specs.FeatureChange.{notice_at};
 ghost use Rattle.handshake.specs.declared.change.Change.TheVariants.{ResolveAll};
 
 use crate::cuts::push_cuts;
 use crate::edits::push_joining;
 use crate::joining::{Joint, Progress, resolve_all};
 use crate::planned::{Finding, Planned};
-use handshake::{FeatureChange, add_counterpart, notices, push_link_end, push_resolved};
+use handshake::{add_counterpart, push_link_end, push_resolved};
 use links::{Edit, LinkStore};
 use mm_types::Seq;
 use mm_values::ValuePlan;
@@ -20,7 +21,8 @@ use notice_chain::Chain;
 use proxies::{Keys, Lead, Resolved, far_end, leads};
 use std::alloc::{AllocError, Global};
 
-/// The plan that resolves all proxies; the notifications are made only if an adapter may have to get them. Fails only if memory is refused.
+/// The plan that resolves all proxies. The notifications are made only if `is_heard`, that is, if an adapter may have to get them. Fails
+/// only if memory is refused.
 pub(crate) fn all_resolved<L: LinkStore>(
     alloc: Global,
     model: &ModelRef<L>,
@@ -50,7 +52,7 @@ fn planned<L: LinkStore>(
     let edits = edits(alloc, model, joints)?;
     let mut chain = Chain::new(alloc);
     if is_heard {
-        notices(alloc, model, feature_changes(alloc, joints)?, &mut chain)?;
+        resolved_notices(alloc, model, joints, &mut chain)?;
     }
     Ok(Planned {
         finding: Finding::Counts(Resolved {
@@ -96,23 +98,27 @@ fn push_edits<L: LinkStore>(
     push_joining(model, end, site.index, Some(target), edits)
 }
 
-/// The feature changes of proxies that are resolved.
-fn feature_changes(alloc: Global, joints: &[Joint]) -> Result<Vec<FeatureChange>, AllocError>
-    ensures { IfOk result (λ ts. ts.items ≡ flat_map spec.told_by joints.now) }
+/// Adds to `chain` the notifications of proxies that are resolved.
+fn resolved_notices<L: LinkStore>(
+    alloc: Global,
+    model: &ModelRef<L>,
+    joints: &[Joint],
+    chain: &mut Chain,
+) -> Result<(), AllocError>
+    ensures { OnOk result (chain.new ≡ chain.old ++ map (notice_at (reading model.now)) (flat_map spec.told_by joints.now)) }
 {
-    let mut out = Vec::new(alloc);
     'joints: for joint in joints {
-        push_told(*joint, &mut out)?;
+        let end = far_end(joint.site.object, joint.site.feature);
+        push_resolved(
+            alloc,
+            model,
+            end,
+            joint.site.index,
+            Some(joint.target),
+            chain,
+        )?;
     }
-    Ok(out)
-}
-
-/// Adds the feature changes of a proxy that is resolved.
-fn push_told(joint: Joint, out: &mut Vec<FeatureChange>) -> Result<(), AllocError>
-    ensures { OnOk result (out.new.items ≡ out.old.items ++ spec.told_by joint) }
-{
-    let end = far_end(joint.site.object, joint.site.feature);
-    push_resolved(end, joint.site.index, Some(joint.target), out)
+    Ok(())
 }
 
 /// How many proxies are left: those of `leads` whose locations are not in `gone`.

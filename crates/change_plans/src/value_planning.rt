@@ -23,7 +23,8 @@ use notice_chain::Chain;
 use std::alloc::{AllocError, Global};
 
 /// The edits that a change makes of objects and attribute values, or the first refusal that planning finds. Adds the notifications to
-/// `chain`, unless no adapter may have to get them. This is `plan` for a change that makes an object or changes an attribute.
+/// `chain` if `is_heard`, that is, if an adapter may have to get them. This is `plan` for a change that makes an object or changes an
+/// attribute. If memory is refused, `chain` may have some of the notifications.
 pub fn plan_values<L: LinkStore>(
     alloc: Global,
     model: &ModelRef<L>,

@@ -21,7 +21,7 @@ meta = record (new_rule (codes "meta")) {
 abbrev pub file : Text → Rule
 file name = record (new_rule name) { long = Some name; action = Some Set; value_names = 1 }
 
--- an option that takes a URI and a file, and may be given several times
+-- an option that takes a value of the form `URI=FILE`, and may be given several times
 abbrev pub each : Text → Rule
 each name = record (new_rule name) { long = Some name; action = Some Append; value_names = 1 }
 
@@ -51,7 +51,8 @@ is_set name rows = option_map_or (λ value. bytes_eq value (codes "true")) (firs
 abbrev pub values : Text → List Row → List Text
 values name rows = unwrap_or (all_of name rows) []
 
--- the options have what the words give: all values of `--load` and `--save`, and the first value of each other option
+-- the options o have what the words give; `rows` has the words as clap reads them. Of `--load` and `--save`, o has all values; of each
+-- other option with a value, o has the first value; of each option without a value, o has whether the words give the option
 pub record AreGiven (o : Options) (rows : List Row) : Type 0 where
   pub meta : first_of (codes "meta") rows ≡ Some o.meta.now
   pub script : first_of (codes "script") rows ≡ option_map (λ s. s.now) o.script

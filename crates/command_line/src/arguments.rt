@@ -21,16 +21,17 @@ pub struct Options<'a> {
     pub script: Option<&'a str>,
     /// The resources that are loaded before the script (`--load`), each as URI=FILE, in the order of the words.
     pub load: Vec<&'a str>,
-    /// The resources that are saved after the script (`--save`), in the same form.
+    /// The resources that are saved after the script (`--save`), each as URI=FILE, in the order of the words.
     pub save: Vec<&'a str>,
     /// The output options: `--echo`, `--number` and `--stop`.
     pub dress: Dress,
-    /// Whether the exit status is 4 if a line was refused or bad (`--strict`).
+    /// Whether the exit status is 4 if the run came to its end, and a line was refused or bad (`--strict`).
     pub strict: bool,
-    /// Whether the program holds a dialogue (`--live`): it answers each line before it reads the next line. With a journal it answers the
-    /// lines at the latest before it waits for input.
+    /// Whether the program holds a dialogue (`--live`). Without a journal it answers each line before it reads the next line. With a
+    /// journal it may hold answers back, at the longest until it waits for input.
     pub live: bool,
-    /// The file that keeps the lines that change the model (`--journal`); `None` if no file keeps them.
+    /// The file of the journal (`--journal`); `None` if there is no journal. A journal keeps each line that asks for a change of the model
+    /// and is done.
     pub journal: Option<&'a str>,
     /// Whether the program says on standard error what to fix (`--explain`).
     pub explain: bool,
@@ -61,7 +62,7 @@ fn file<'a>(alloc: Global, name: &'a str, help: &'a str) -> Arg<'a>
         .action(ArgAction::Set)
 }
 
-/// An option that takes a URI and a file, and may be given several times.
+/// An option that takes a value of the form `URI=FILE`, and may be given several times. The form is not checked here.
 fn each<'a>(alloc: Global, name: &'a str, help: &'a str) -> Arg<'a>
     ensures rule { rule_of result ≡ each_rule name.entry.now }
     ensures local { result.global ≡ false }
@@ -136,7 +137,7 @@ pub fn usage_of(alloc: Global) -> Result<String, AllocError> {
 
 /// The options that the words of a command line give; the first word is the program's name.
 ///
-/// Fails as `clap` does: with the text of `--help` or `--version`, with what is wrong in the words, or if memory is refused.
+/// Fails as `clap` does. The error has the text of `--help` or `--version`, or says what is wrong in the words, or that memory was refused.
 pub fn options_of<'a>(alloc: Global, words: &'a [&'a str]) -> Result<Options<'a>, Error>
     // The options have what the words give.
     ensures value { IfOk result (λ o. AreGiven o (matches_of program (texts words.entry.now))) }
@@ -165,7 +166,8 @@ pub fn options_of<'a>(alloc: Global, words: &'a [&'a str]) -> Result<Options<'a>
 
 /// The value of `--meta` among the words of a command line; the first word is the program's name.
 ///
-/// Fails as `options_of` does: with the text of `--help` or `--version`, with what is wrong in the words, or if memory is refused.
+/// Fails as `options_of` does. The error has the text of `--help` or `--version`, or says what is wrong in the words, or that memory was
+/// refused.
 pub fn meta_file<'a>(alloc: Global, words: &'a [&'a str]) -> Result<&'a str, Error>
     // The file is the first value that the words give to `--meta`.
     ensures value { IfOk result (λ file. first_of (codes "meta") (matches_of program (texts words.entry.now)) ≡ Some file.now) }

@@ -1,4 +1,5 @@
--- The topmost among a node and the nodes above it, and the resource that an object is in. Both are read from the list of the nodes above.
+-- The topmost among a node and the nodes above it, and the resource that an object is in. Both are computed from a function `up`, which
+-- gives the nodes above a node, the nearest first.
 use Rattle.std.specs.Prelude.{List, Option, Some, None, unwrap_or}
 use Rattle.std.specs.List.{last_or}
 use Rattle.mm_types.specs.declared.numbers.ObjectNo.{ObjectNo}
@@ -15,6 +16,6 @@ abbrev pub resource_of_node : Node → Option ResourceNo
 resource_of_node (node.Object o) = None
 resource_of_node (node.Resource r) = Some r
 
--- the resource that an object is in
+-- the resource that an object is in, directly or below other objects; none if it is in no resource
 abbrev pub resource_of : (Node → List Node) → ObjectNo → Option ResourceNo
 resource_of up o = resource_of_node (root_of up (node.Object o))

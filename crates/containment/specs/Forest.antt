@@ -11,7 +11,7 @@ use Rattle.mm_types.specs.declared.numbers.Node.TheVariants as node
 use Rattle.mm_types.specs.declared.end.End.{End}
 use Rattle.models.specs.Reading.{Reading, all_features_of, at_end, objects_of}
 
--- the objects that a node contains under the containments among some features, feature by feature, then by position
+-- the objects that a node contains under those of the features fs that are containments, feature by feature, then by position
 abbrev pub parts : Reading → Node → List FeatureNo → List ObjectNo
 parts r n fs = flat_map (λ f. objects_of (r.values (at_end n f))) (filter (is_containment r.metamodel) fs)
 
@@ -39,8 +39,8 @@ abbrev pub tree : Reading → ℕ → ObjectNo → List ObjectNo
 tree r zero o = []
 tree r (suc k) o = o ∷ flat_map (tree r k) (contents r (node.Object o))
 
--- an object and all objects below it; no tree has more levels than objects were made, so `suc r.next` levels are enough. If no object has
--- the number of o, the list has only o
+-- the object o and all objects below it. A tree has at most `r.next` levels, since `r.next` objects were made; so `suc r.next` levels are
+-- enough. If no object has the number of o, the list has only o
 abbrev pub subtree : Reading → ObjectNo → List ObjectNo
 subtree r o = tree r (suc r.next) o
 

@@ -5,6 +5,6 @@ use Rattle.mm_types.specs.declared.numbers.ObjectNo.{ObjectNo}
 abbrev pub object_no : ℕ → ObjectNo
 object_no n = record { 0 = n }
 
--- the objects of some numbers
+-- the objects with the numbers ns, in the same order
 abbrev pub waiting_objects : List ℕ → List ObjectNo
 waiting_objects ns = map object_no ns

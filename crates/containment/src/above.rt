@@ -11,8 +11,8 @@ ghost use Rattle.containment.specs.Above.{resource_of, root_of as root};
 use links::LinkStore;
 use mm_types::{Node, ObjectNo, ResourceNo};
 
-/// Whether `above` is among the nodes above `node` (EMF: EcoreUtil.isAncestor, if the two differ). No node is above itself.
-/// Takes no memory.
+/// Whether `above` is among the nodes above `node` (EMF: EcoreUtil.isAncestor, if the two differ). No node is above itself. Takes no
+/// memory.
 pub fn is_under<L: LinkStore>(store: &L, node: Node, above: Node) -> bool
     requires legal { IsLegalSet (L.links store.now) }
     requires no_cycle { HasNoCycle (L.links store.now) }

@@ -15,8 +15,8 @@ use links::LinkStore;
 use mm_types::{End, FeatureNo, Node, ObjectNo};
 use models::ModelRef;
 
-/// The greatest number of objects at which the search downwards can still have to look. If there would be more, that search stops, and only
-/// the search upwards goes on.
+/// How many objects the search downwards can remember as still to be looked at. If it would have to remember more objects, it stops, and
+/// only the search upwards goes on.
 const MOST_WAITING: usize = 32;
 
 /// The numbers of the objects at which the search downwards still has to look. It then has to look at the objects below each of them too.
@@ -87,7 +87,7 @@ fn add_parts<L: LinkStore>(
     add_objects(model, End { node, feature }, waiting)
 }
 
-/// Adds the objects that are at the end of a reference, and returns whether there was capacity for all of them.
+/// Adds the objects among the values of `end`, whose feature is a reference, and returns whether there was capacity for all of them.
 fn add_objects<L: LinkStore>(model: &ModelRef<L>, end: End, waiting: &mut Waiting) -> bool
     requires reference { (shape model.now.metamodel end.feature).is_reference ≡ true }
     ensures { result ≡ true → waiting_objects waiting.new.items ≡ waiting_objects waiting.old.items ++ objects_of ((reading model.now).values end) }

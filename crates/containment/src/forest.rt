@@ -34,8 +34,8 @@ pub(crate) fn may_contain<L: LinkStore>(model: &ModelRef<L>, node: Node) -> bool
     }
 }
 
-/// The objects that a node directly contains, by feature in the order of all features, and then by position (EMF:
-/// EObject.eContents). Fails only if memory is refused.
+/// The objects that a node directly contains, by feature in the order of all features, and then by position (EMF: EObject.eContents). Fails
+/// only if memory is refused.
 pub fn contents<L: LinkStore>(
     alloc: Global,
     model: &ModelRef<L>,
@@ -70,7 +70,7 @@ fn push_parts<L: LinkStore>(
     push_objects(model, End { node, feature }, out)
 }
 
-/// Adds the objects that are at the end of a reference.
+/// Adds the objects among the values at `end`, whose feature is a reference. Proxies are left out.
 fn push_objects<L: LinkStore>(
     model: &ModelRef<L>,
     end: End,

@@ -1,4 +1,4 @@
-//! All objects below a node, and whether a node is below another.
+//! An object and all objects below it, all objects in a resource, and whether a node is below a given node.
 ghost use Rattle.std.specs.Prelude.{◌≡◌, false, flat_map, reverse, IfOk};
 ghost use Rattle.std.specs.List.{list_any};
 ghost use Rattle.mm_types.specs.Same.{same_node};
@@ -74,8 +74,8 @@ pub fn is_within<L: LinkStore>(model: &ModelRef<L>, above: Node, node: Node) -> 
 }
 
 /// Whether `node` is below `above`. A node that nothing contains is below no node, and no node is below an object that contains nothing. If
-/// an object has few objects below it, few steps show that a node is not below this object. So if a chain of objects grows at its bottom,
-/// the chain is not climbed to its top for each new object, which has few objects below it.
+/// an object has few objects below it, few steps show that a node is not below this object. A new object has few objects below it. So if a
+/// chain of objects grows at its bottom, the chain is not climbed to its top for each new object.
 fn is_below<L: LinkStore>(model: &ModelRef<L>, above: Node, node: Node) -> bool
     requires apart { same_node above node ≡ false }
     ensures { result ≡ list_any (same_node above) ((reading model.now).above node) }

@@ -14,8 +14,8 @@ use Rattle.doc_loader.specs.LoadEdits.{load_edits}
 use Rattle.doc_loader.specs.Loading.{loaded_links, loaded_number, object_end, with_links}
 use Rattle.models.specs.Reading.{contents_end}
 
--- no link names the number n or a higher number of an object, and the resource k is empty; n is the number that the document's first object
--- gets
+-- n is the number that the document's first object gets, and s is the set of links. The resource k is empty, and in s no object with the
+-- number n or a higher number has a link
 pub record IsRoomFor (m : Metamodel) (n : ℕ) (k : ResourceNo) (s : Links) : Type 0 where
   pub roots : end s (contents_end m k) ≡ []
   pub ends : (o : ObjectNo) (f : FeatureNo) → end s (object_end n o f) ≡ []

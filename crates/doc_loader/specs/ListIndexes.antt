@@ -21,7 +21,7 @@ use Rattle.doc_loader.specs.declared.indexes.ListIndexes.{ListIndexes}
 abbrev pub object_key : ObjectNo → FeatureNo → ObjectNo → ReferenceKey
 object_key o f b = reference_key o f b.0
 
--- the key for the value at an index, and the index, if the value is an object; else nothing
+-- for the value at index i under the feature f of the object o: if the value is an object, its key together with i; else nothing
 abbrev pub key_and_index : ObjectNo → FeatureNo → ℕ × Value → List (ReferenceKey × ℕ)
 key_and_index o f (i, value.Object b) = (object_key o f b, i) ∷ []
 key_and_index o f (i, v) = []
@@ -40,7 +40,8 @@ abbrev pub last_index : List (ReferenceKey × ℕ) → ReferenceKey → Option �
 last_index [] k = None
 last_index (x ∷ xs) k = option_or (last_index xs k) (if same_reference_key x.0 k then Some x.1 else None)
 
--- the index that the lists of a document give for a reference key, 0 if they give none; os are the objects of the document
+-- the last index that the lists of a document have for the reference key k, or 0 if they have no index for k; os are the objects of the
+-- document
 abbrev pub index_among : Metamodel → List DocObject → ReferenceKey → ℕ
 index_among m os k = unwrap_or (last_index (all_indexes m os) k) 0
 

@@ -36,7 +36,7 @@ loaded_value n v = v
 abbrev pub roots_loaded : ℕ → Doc → List Value
 roots_loaded n doc = map (λ o. value.Object (loaded_number n o)) doc.roots
 
--- the results of `make` for all contents of an object, in one list; x has the object's number in the document, and the object
+-- the results of `make` for all contents of an object, in one list; x is the pair of the object's number in the document and the object
 abbrev pub of_object : {X : Type 0} → (ObjectNo → Content → List X) → ℕ × DocObject → List X
 of_object make x = flat_map (make (record { 0 = x.0 })) x.1.contents
 
@@ -66,9 +66,9 @@ object_end n o f = at_end (node.Object (loaded_number n o)) f
 abbrev pub is_empty_resource : Reading → ResourceNo → Bool
 is_empty_resource r k = is_nil (r.values (contents_end r.metamodel k))
 
--- If the document gives b as a value of o under f, and g is the opposite of f: the position of o at the end of b under g. If f is a
--- containment, this is 0, since the container is the only value there; else it is the index of o in the list of b under g in the document
--- (0 if that list lacks o). a is the shape of f.
+-- The far position of a link from the object o, under the feature f, to the object b: the position of o among the values of b under g, the
+-- opposite of f. If f is a containment, the position is 0, since an object has at most one container. Otherwise the position is the index
+-- of o in the document's list of b under g, or 0 if that list lacks o. a is the shape of f.
 abbrev pub far_index : Shape → Doc → ObjectNo → FeatureNo → ObjectNo → FeatureNo → ℕ
 far_index a doc o f b g = if is_feature f a.containing then 0 else unwrap_or (position (same_value (value.Object o)) (values_in doc b g)) 0
 

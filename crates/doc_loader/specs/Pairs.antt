@@ -1,5 +1,5 @@
--- Pairs of opposite features, neither of which is a containment. Each edit that puts a link of a pair names the end whose feature has the
--- lower number of the two.
+-- Pairs of opposite features, neither of which is a containment. A link of a pair has an end under each of the two features. The edit that
+-- puts the link names the end under the feature with the lower number.
 use Rattle.std.specs.Prelude.{◌&&◌, Bool, false, not, nat_lt, Option, Some, None, is_some, option_and_then, if◌then◌else◌}
 use Rattle.std.specs.Option.{option_map_or}
 use Rattle.mm_types.specs.Shapes.{Shape}
@@ -19,6 +19,7 @@ lower_of a g = if is_some a.containing then None else option_and_then (if_below 
 abbrev pub is_lower : Shape → FeatureNo → Bool
 is_lower a f = not (is_some a.containing) && option_map_or (is_below f) a.opposite false
 
--- whether a feature is a reference, and not the higher feature of a pair; if so, the edits that put its links name its own ends
+-- whether a feature is a reference, but not the higher feature of a pair. If it is, the values that a document has under this feature are
+-- put by edits that name the ends of this feature, and not the ends of its opposite
 abbrev pub is_near : Shape → FeatureNo → Bool
 is_near a f = a.is_reference && not (is_some (lower_of a f))

@@ -1,5 +1,6 @@
-//! The edits for the higher features of pairs of opposites: they bring the values of these features into the order of the document. If two
-//! features are opposites and neither is a containment, the one with the higher number is the higher feature of the pair.
+//! The edits for the higher features of pairs of opposites: they bring the objects under these features into the order of the document. The
+//! proxies under these features are put later, by the edits of the module `proxies`. Two features are a pair if they are opposites and
+//! neither is a containment. The feature with the higher number is the higher feature of the pair.
 ghost use Rattle.std.specs.Prelude.{◌≡◌, ◌≤◌, ◌+◌, ◌++◌, ℕ, OnOk, flat_map, length, unwrap_or};
 ghost use Rattle.std.specs.List.{All, enumerate_from, list_any};
 ghost use Rattle.mm_types.specs.declared.limits.TheConstants.{OBJECTS};
@@ -87,9 +88,9 @@ pub(crate) fn has_higher(meta: &Meta, objects: &[DocObject]) -> bool
         .any(|object| has_any_higher(meta, object.contents.as_slice()))
 }
 
-/// Adds the edits that bring the values under the higher features of pairs into the order of the document. The edits of `Pass::Near` put
-/// the objects under these features in the order of their numbers. So if the document has them in that order, no edit is added, and no
-/// memory is taken.
+/// Adds the edits that bring the objects under the higher features of pairs into the order of the document. The edits of `Pass::Near` put
+/// the objects under these features in the order of their numbers. So if the lists of the document are in this order already, no edit is
+/// added, and no memory is taken.
 pub(crate) fn push_in_order(
     alloc: Global,
     meta: &Meta,
@@ -113,7 +114,7 @@ pub(crate) fn push_in_order(
     push_objects(&source, objects, edits)
 }
 
-/// Adds the edits that bring the values of the document's objects under the higher features of pairs into the order of the document. The
+/// For each object of the document, adds the edits that bring the lists of the higher features of pairs into the order of the document. The
 /// number of an object in the document is its index in `objects`.
 fn push_objects(
     source: &LoadContext,
@@ -131,7 +132,7 @@ fn push_objects(
     Ok(())
 }
 
-/// Adds the edits that bring the values of one object under the higher features of pairs into the order of the document.
+/// For one object, adds the edits that bring the lists of the higher features of pairs into the order of the document.
 fn push_object(
     source: &LoadContext,
     object: ObjectNo,

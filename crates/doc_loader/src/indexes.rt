@@ -48,7 +48,7 @@ impl ListIndexes {
         Ok(indexes)
     }
 
-    /// Adds the indexes of the objects that an object of the document names under the lower features of pairs.
+    /// Adds the indexes of the objects in the lists that one object of the document has under the lower features of pairs.
     fn add_object(
         &mut self,
         meta: &Meta,
@@ -64,7 +64,8 @@ impl ListIndexes {
         Ok(())
     }
 
-    /// Adds the indexes of the objects that an object of the document names under a feature, if the feature is the lower one of a pair.
+    /// Adds the indexes of the objects in a content, if the feature of the content is the lower feature of a pair. `object` is the number,
+    /// in the document, of the object that has the content.
     fn add_content(
         &mut self,
         meta: &Meta,

@@ -5,7 +5,8 @@ ghost use Rattle.doc_loader.specs.Loading as l;
 
 use mm_types::{End, FeatureNo, Node, ObjectNo};
 
-/// The number that an object of a document gets, if the first one gets `next`. Takes no memory.
+/// The number that an object gets, if its number in the document is `object`, and the first object of the document gets `next`. Takes no
+/// memory.
 pub fn loaded(next: usize, object: ObjectNo) -> ObjectNo
     requires fits { IsNumbered next object }
     ensures { result ≡ l.loaded_number next object }
@@ -13,7 +14,8 @@ pub fn loaded(next: usize, object: ObjectNo) -> ObjectNo
     ObjectNo((next + object.0 as usize) as u32)
 }
 
-/// The end of a feature at an object of a document; the end names the object by the number that it gets, if the first object gets `next`.
+/// The end of `feature` at the object `object` of a document. The end names the object by the number that the object gets; the first object
+/// of the document gets `next`.
 pub(crate) fn object_end(next: usize, object: ObjectNo, feature: FeatureNo) -> End
     requires fits { IsNumbered next object }
     ensures { result ≡ l.object_end next object feature }

@@ -1,5 +1,5 @@
-//! Pairs of opposite features, neither of which is a containment. Each edit that puts a link of a pair names the end whose feature has the
-//! lower number of the two.
+//! Pairs of opposite features, neither of which is a containment. A link of a pair has an end under each of the two features. The edit that
+//! puts the link names the end under the feature with the lower number.
 ghost use Rattle.std.specs.Prelude.{◌≡◌};
 ghost use Rattle.mm_types.specs.Shapes.{shape};
 ghost use Rattle.doc_loader.specs.Pairs as p;
@@ -31,8 +31,8 @@ pub(crate) fn is_lower(meta: &Meta, feature: FeatureNo) -> bool
     }
 }
 
-/// Whether a feature is a reference, and not the higher feature of a pair; if so, the edits that put its links name its own ends. Takes no
-/// memory.
+/// Whether a feature is a reference, but not the higher feature of a pair. If it is, the values that a document has under this feature are
+/// put by edits that name the ends of this feature, and not the ends of its opposite. Takes no memory.
 pub(crate) fn is_near(meta: &Meta, feature: FeatureNo) -> bool
     ensures { result ≡ p.is_near (shape meta.now feature) feature }
 {

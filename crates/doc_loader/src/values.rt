@@ -1,4 +1,4 @@
-//! The edits that make a document's objects and their values.
+//! The edits that make a document's objects and set their attributes.
 ghost use Rattle.std.specs.Prelude.{◌≡◌, ◌≤◌, ◌+◌, ◌++◌, IfOk, OnOk, flat_map, length, map, option_to_list};
 ghost use Rattle.std.specs.List.{enumerate_from};
 ghost use Rattle.mm_types.specs.declared.limits.TheConstants.{OBJECTS};

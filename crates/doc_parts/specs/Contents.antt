@@ -1,4 +1,4 @@
--- Whether the content of a feature is of the feature's type, and the values of attributes.
+-- Whether the content of a feature is of the feature's type, and which values the content of an attribute gives.
 use Rattle.std.specs.Prelude.{ℕ, ◌&&◌, ◌||◌, Bool, true, false, List, length, nat_le, Option, None, is_some, option_map, if◌then◌else◌}
 use Rattle.std.specs.List.{list_all}
 use Rattle.std.specs.Option.{option_map_or, option_or}
@@ -23,7 +23,8 @@ is_short t = nat_le (length t) TEXT_BYTES
 
 ---------------------------------------------------------------- attributes
 
--- the value that data gives a text attribute: a text of at most TEXT_BYTES bytes, or null if the attribute is single
+-- the value that data gives a text attribute: the text, if the data is a text of at most TEXT_BYTES bytes; null, if the data is null and
+-- the attribute is single; else none
 abbrev pub text_value : Bool → Data → Option Value
 text_value single d =
     option_or (if single then option_map (λ x. value.Null) (as_null d) else None) (option_map value.Text (as_str d such_that is_short))
@@ -41,8 +42,8 @@ attribute_value m single (Enum e) d = option_map value.Literal (as_str d >>= loo
 abbrev pub conforms_to : Metamodel → ClassNo → Data → Bool
 conforms_to m target d = option_map_or (λ c. lookups.conforms m c target) (class_of m d) false
 
--- whether data may be a part under a containment: it is a JSON object, and if it names a class of the metamodel, this class conforms to the
--- target
+-- whether data may be a part under a containment: it is a JSON object, and if it has the layout of an object and names a class of the
+-- metamodel, this class conforms to the target
 abbrev pub may_stand : Metamodel → ClassNo → Data → Bool
 may_stand m target d = is_some (as_object d) && option_map_or (λ c. lookups.conforms m c target) (class_of m d) true
 

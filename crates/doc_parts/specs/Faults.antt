@@ -15,8 +15,8 @@ use Rattle.doc_parts.specs.Parts.{Entry, Part, entries, level_of, values_of}
 
 ---------------------------------------------------------------- tests of all parts
 
--- whether `holds` is true of some object among the parts; and `of_entry`, whether `holds` is true of the content of some feature of some
--- part
+-- `of_written`: whether `holds` is true of some part that has the layout of an object. `of_entry`: whether `holds` is true of the content
+-- of some feature of some part
 abbrev pub of_written : (Written → Bool) → List Part → Bool
 of_written holds ps = list_any (λ p. option_map_or holds (written_object p.json) false) ps
 

@@ -37,7 +37,7 @@ pub record Seen : Type 0 where
   pub known : Option (ClassNo × Members)
   pub number : Option ℕ
 
--- the part p as it was found among the parts ps; its number is the number of the first part that has the same path
+-- the part p as a search records it; its number is the number of the first part of ps that has the same path as p
 abbrev pub seen_part : Metamodel → List Part → Part → Seen
 seen_part m ps p = record { level = level_of p; json = p.json; known = class_and_members m p.json; number = number_of ps p.path }
 

@@ -29,8 +29,8 @@ is_at (UnderKey n w i) (Under k v j) = nat_eq n k && (bytes_eq w v.now && same_i
 abbrev pub number_at : Numbers → Key → Option ℕ
 number_at t k = lookup (is_at k) t.numbers.entries
 
--- the number of the part to which steps lead from the root at position i; `at` gives the number at a key, and the steps are given from the
--- last to the first
+-- the number of the part to which steps lead from the root at position i; none if they lead to no part. `at` gives the number at a key, and
+-- the steps are given from the last to the first
 abbrev pub way : (Key → Option ℕ) → ℕ → List Step → Option ℕ
 way at i [] = at (RootKey i)
 way at i (s ∷ ss) = option_and_then (λ n. at (UnderKey n s.name s.index)) (way at i ss)
@@ -38,8 +38,8 @@ way at i (s ∷ ss) = option_and_then (λ n. at (UnderKey n s.name s.index)) (wa
 abbrev pub way_of : (Key → Option ℕ) → Path → Option ℕ
 way_of at p = way at p.root (reverse p.steps)
 
--- the number of the part to which steps lead from the part with the number o; `at` gives the number at a key, and the first step comes
--- first
+-- the number of the part to which steps lead from the part with the number o; none if they lead to no part, or if o is none. `at` gives the
+-- number at a key, and the first step comes first
 abbrev pub descend : (Key → Option ℕ) → Option ℕ → List Step → Option ℕ
 descend at o [] = o
 descend at o (s ∷ ss) = descend at (option_and_then (λ n. at (UnderKey n s.name s.index)) o) ss

@@ -1,5 +1,5 @@
--- Which parts of a document are looked at: the data wherever an object is expected, with its path. Nothing is looked at in an object of an
--- unknown class, under an unknown feature or under a container reference.
+-- Which parts of a document are looked at. A part is the data at a position at which an object is expected, with the path of this position.
+-- Nothing is looked at in an object of an unknown class, under an unknown feature or under a container reference.
 use Rattle.std.specs.Prelude.{ℕ, zero, suc, length, List, [], ◌∷◌, filter_map, flat_map, map, position, Option, Some, None, option_map, unwrap_or, if◌then◌else◌}
 use Rattle.std.specs.List.{enumerate_from}
 use Rattle.std.specs.Option.{option_map_or}
@@ -44,11 +44,11 @@ entry_at m ms f = option_map (new_entry f) (content_at m ms f)
 abbrev pub entries_in : Metamodel → ClassNo → Members → List Entry
 entries_in m c ms = filter_map (entry_at m ms) (unwrap_or (lookups.features m c) [])
 
--- the class and the members of an object whose class is known
+-- the class of an object and the members under its key `features`; none if the data is no object of a document, or no class has the name
 abbrev pub class_and_members : Metamodel → Data → Option (ClassNo × Members)
 class_and_members m d = written_object d >>= (λ w. option_map (λ c. (c, w.features)) (lookups.class_by_name m w.class))
 
--- the contents of an object, in the order of all features
+-- the contents of an object, in the order of all features of its class; none if its class is unknown
 abbrev pub entries : Metamodel → Data → List Entry
 entries m d = option_map_or (λ k. entries_in m k.0 k.1) (class_and_members m d) []
 

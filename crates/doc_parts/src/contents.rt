@@ -16,7 +16,8 @@ use borrowed_json::Json;
 use mm_meta::Meta;
 use mm_types::{ClassNo, FeatureNo, Kind, limits};
 
-/// Whether an object names the class with the number `class`. The two names are compared, and no name is looked up.
+/// Whether an object names the class with the number `class`. The name in the object is compared with the name of that class, and no name
+/// is looked up.
 fn names_class(meta: &Meta, class: ClassNo, json: &Json) -> bool
     ensures class { result ≡ true → class_meant meta.now (view json.now) ≡ Some class }
     ensures conforms { result ≡ true → conforms meta.now class class ≡ true }
@@ -28,8 +29,8 @@ fn names_class(meta: &Meta, class: ClassNo, json: &Json) -> bool
     }
 }
 
-/// Whether a JSON value may be under a containment with the class `target`: it is a JSON object, and if it names a class of the metamodel,
-/// this class conforms to `target`. Most objects have exactly the class of their containment, so this class is tried first.
+/// Whether a JSON value may be under a containment with the class `target`: it is a JSON object, and if it has the layout of an object and
+/// names a class of the metamodel, this class conforms to `target`. Most objects name `target` itself, so this class is tried first.
 fn may_stand(meta: &Meta, target: ClassNo, json: &Json) -> bool
     ensures { result ≡ may_be meta.now target (view json.now) }
 {
@@ -81,8 +82,8 @@ fn is_shaped(is_single: bool, content: &Json) -> bool
     is_single || content.is_array()
 }
 
-/// Whether the content of a feature is of the feature's type: an array if the feature is many-valued, and each value is
-/// one that the feature may hold. Takes no memory.
+/// Whether the content of a feature is of the feature's type: an array if the feature is many-valued, and each value is one that the
+/// feature may hold. Takes no memory.
 pub fn is_content<'t>(meta: &Meta, feature: FeatureNo, content: &'t Json<'t>) -> bool
     ensures { result ≡ is_meant meta.now (new_entry feature (view content.now)) }
 {

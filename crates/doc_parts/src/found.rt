@@ -19,7 +19,7 @@ pub enum PartKey<'m> {
     },
 }
 
-/// A position as a number of 32 bits, as keys have it. Takes no memory; fails if the position does not fit 32 bits.
+/// A position as a number of 32 bits, as keys have positions. Takes no memory; fails if the position does not fit in 32 bits.
 pub fn index_of(position: usize) -> Result<u32, AllocError>
     ensures index { IfOk result (λ i. i ≡ position) }
     ensures refused { IfErr result (λ _. 2 ^ 32 ≤ position) }

@@ -1,4 +1,4 @@
-//! The layout of a document: its top, which is the outermost JSON object, and an object of the resource.
+//! The layout of a document: how its top (the outermost JSON object) and the objects of the resource are written.
 ghost use Rattle.std.specs.Prelude.{◌≡◌, IsTrue, codes, option_map};
 ghost use Rattle.serde_json.specs.Data.{object};
 ghost use Rattle.serde_json.specs.Find.{as_object, as_str};

@@ -159,7 +159,7 @@ fn walk_roots<'t, 'm>(
 }
 
 /// Finds the roots of a document and the parts below them, at most `levels` levels in all. The parts are in loading order: each comes
-/// before the parts in it.
+/// before the parts in it. Fails if memory is refused, or if a number, a position or a level does not fit 32 bits.
 pub fn find_parts<'t, 'm>(
     alloc: Global,
     meta: &'m Meta,

@@ -16,6 +16,6 @@ may_refer m f = (shape m f).is_reference && (not (is_containment m f) && is_writ
 abbrev pub IsReferencesOf : Metamodel → Option ClassNo → ClassReferences → Type 0
 IsReferencesOf m c r = (r.class ≡ c) × (r.features.items ≡ filter (may_refer m) (unwrap_or (option_and_then (lookups.features m) c) []))
 
--- r has the features of the class that it was made for (`IsReferencesOf`)
+-- r has the features by which objects of the class `r.class` may refer to other objects (`IsReferencesOf`)
 abbrev pub IsReferences : Metamodel → ClassReferences → Type 0
 IsReferences m r = IsReferencesOf m r.class r

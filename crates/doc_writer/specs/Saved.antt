@@ -34,7 +34,7 @@ is_dangling r o = not (is_some (resource_of r.above o))
 abbrev pub dangles_by : Reading → ObjectNo → FeatureNo → Bool
 dangles_by r o f = is_written r o f && (not (is_containment r.metamodel f) && list_any (is_dangling r) (targets_under r o f))
 
--- whether an object refers by any of its features to an object that is in no resource
+-- whether an object refers by any of its `reference_features` to an object that is in no resource
 abbrev pub has_dangling : Reading → ObjectNo → Bool
 has_dangling r o = list_any (λ f. list_any (is_dangling r) (targets_under r o f)) (reference_features r o)
 

@@ -1,4 +1,4 @@
-//! The features by which the objects of a class refer to other objects.
+//! The features by which the objects of a class may refer to other objects.
 ghost use Rattle.std.specs.Prelude.{◌≡◌, ◌∷◌, ◌++◌, [], IsTrue, OnOk, filter};
 ghost use Rattle.doc_writer.specs.References.{may_refer};
 
@@ -54,7 +54,7 @@ impl ClassReferences {
     ghost use Rattle.mm_types.specs.Resolved.{Metamodel};
     ghost use Rattle.doc_writer.specs.References.{IsReferences, IsReferencesOf};
 
-    /// The features of no class: an empty list. Takes no memory.
+    /// The list for no class, which is empty. Takes no memory.
     pub fn none(alloc: Global) -> Self
         ensures { (m : Metamodel) → IsReferences m result }
     {
@@ -64,8 +64,8 @@ impl ClassReferences {
         }
     }
 
-    /// If the features are not those of `class` already, replaces them by the features of `class`. Fails only if memory is refused; then
-    /// the features may be wrong for any class, and may not be used any more.
+    /// If the list is not for `class` already, replaces it by the list for `class`: the features by which objects of `class` may refer to
+    /// others. Fails only if memory is refused. After a failure the list may lack some features, and must not be used any more.
     #[inline(always)]
     pub fn turn_to(&mut self, meta: &Meta, class: Option<ClassNo>) -> Result<(), AllocError>
         requires { IsReferences meta.now self.old }
@@ -77,7 +77,7 @@ impl ClassReferences {
         self.make(meta, class)
     }
 
-    /// Whether the features are those of a given class.
+    /// Whether the list is for a given class, or for no class if `class` is `None`.
     #[inline(always)]
     fn is_of(&self, class: Option<ClassNo>) -> bool
         ensures { IsTrue result → self.now.class ≡ class }
@@ -89,7 +89,7 @@ impl ClassReferences {
         }
     }
 
-    /// Replaces the features by those of a class.
+    /// Replaces the list by the list for `class`, which is empty if `class` is `None`. Fails only if memory is refused.
     fn make(&mut self, meta: &Meta, class: Option<ClassNo>) -> Result<(), AllocError>
         ensures { OnOk result (IsReferencesOf meta.now class self.new) }
     {

@@ -1,4 +1,4 @@
-//! Writes JSON values that have no parts.
+//! Writes JSON values other than arrays and objects.
 ghost use Rattle.std.specs.Prelude.{◌≡◌, OnOk};
 ghost use Rattle.serde_json.specs.Data.{boolean, null, number as number_of, string};
 ghost use Rattle.serde_json.specs.Find.{of_integer};

@@ -100,8 +100,8 @@ fn first_class<L: LinkStore>(
     }
 }
 
-/// Writes all values of an end as an array. If the values are contained objects, and `order` is not of the class of the first of them, the
-/// features of that class are sorted by name; this order is used for all contained objects of that class.
+/// Writes all values of an end as an array. All contained objects of the class of the first contained object share one order of features.
+/// This is `order` if `order` is for that class; otherwise the features of the class are sorted by name once.
 #[cycle(object)]
 fn write_items<L: LinkStore>(
     source: &WriteContext<L>,

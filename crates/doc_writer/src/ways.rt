@@ -127,8 +127,8 @@ fn note_object<L: LinkStore>(
     note_features(positions, object, by_class.as_slice())
 }
 
-/// Notes the ways to the objects to which some objects refer. Stops at the first of these targets that is in no resource, and returns
-/// whether there is such a target. Fails only if memory is refused.
+/// Notes the ways to the objects to which `objects` refer. Stops at the first of these targets that is in no resource, and returns whether
+/// there is such a target. Fails only if memory is refused.
 pub(crate) fn note_ways<L: LinkStore>(
     alloc: Global,
     positions: &mut Positions<L>,

@@ -11,9 +11,9 @@ use Rattle.journal.specs.Journal.{IsBeforeOrAfter, StandsFor}
 use Rattle.durable.specs.Printed.{Printed, Runs, RunsLines, answers, kept_lines}
 
 -- What was written when a run stopped for a fault. `text` has the answers to the first lines; the lines of `next` were run but not
--- answered. A read fails only when all lines that were run are answered, so `next` is empty. If a write fails, `next` is empty too, a
--- prefix of `text` was written, and the lines to be kept among the lines that were run are on the disk. For any other fault all of `text`
--- was written.
+-- answered. After a failed write (`Write`) only a prefix of `text` was written; for any other fault all of `text` was written. `next` is
+-- empty if a read failed (`Read`), since a read can fail only when all lines that were run are answered. `next` is also empty if a write
+-- failed; then all lines to be kept that were run are on the disk.
 abbrev pub WritesUntil : RunFault → List (List ℕ) → Option (List ℕ) → Option (List ℕ) → List ℕ → Type 0
 WritesUntil Read next old new text = (next ≡ []) × Appends old new text
 WritesUntil Write next old new text = (next ≡ []) × AppendsFront old new text
@@ -37,9 +37,9 @@ module _ {S : Type 0} (runs : Runs S) where
     pub ran : RunsLines runs s first printed after
     pub stands : StandsFor (before ++ kept_lines first printed) file
 
-  -- A run stopped for a fault. The answers to the first lines were written, but after a failed write only a prefix of them; the next lines
-  -- were run but not answered. A file that a crash leaves has the lines from before the run and the lines to be kept among the first lines,
-  -- and either none or all of the lines to be kept among the next lines.
+  -- A run stopped for a fault. The answers to the first lines were written, or only a prefix of these answers if a write failed. The next
+  -- lines were run but not answered. A file that a crash leaves has the lines from before the run and the lines to be kept among the first
+  -- lines, and either none or all of the lines to be kept among the next lines.
   pub record Stops (fault : RunFault) (s : S) (before : List (List ℕ)) (ls : List (List ℕ)) (old new : Option (List ℕ)) (may_leave : List ℕ → Type 0) : Type 0 where
     pub first : List (List ℕ)
     pub next : List (List ℕ)

@@ -11,7 +11,7 @@ abbrev pub begun_lines : List ℕ → List (List ℕ) → List (List ℕ)
 begun_lines head [] = head ∷ []
 begun_lines head (l ∷ ls) = l ∷ ls
 
--- the result of a search for the head: the rest of the file, or none if the file has no line
+-- the result of a search for the head of a file: the bytes of the file after the head, or none if the file has no line
 abbrev pub FindsLines : Option (Bor (List ℕ)) → List ℕ → List ℕ → Type 0
 FindsLines None bytes head = recovered_lines bytes ≡ []
 FindsLines (Some rest) bytes head = recovered_lines bytes ≡ head ∷ recovered_lines rest.now
@@ -20,7 +20,7 @@ FindsLines (Some rest) bytes head = recovered_lines bytes ≡ head ∷ recovered
 abbrev pub IsBegunOrNot : List ℕ → List (List ℕ) → List ℕ → Type 0
 IsBegunOrNot head ls file = StandsFor ls file ⊎ StandsFor (begun_lines head ls) file
 
--- the faults for which a file is refused as a journal before any of its lines is run
+-- the faults that a search for the head can find: the file is no journal, or its journal was begun with a different metamodel
 abbrev pub IsOfHead : JournalFault → Type 0
 IsOfHead refused.NoJournal = Unit {0}
 IsOfHead refused.OtherMetamodel = Unit {0}

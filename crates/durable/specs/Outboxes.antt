@@ -77,7 +77,7 @@ FailsToGive contents seen may_leave faults old stops.Memory new = writer_of new 
 FailsToGive contents seen may_leave faults old stops.Journal new =
     (writer_of new ≡ writer_of old) × ((faults (disk_under old) < faults (disk_under new)) ⊎ IsFull seen new)
 
--- A crash at a moment from `old` to `new` leaves a file of the lines that were kept before, either without the noted lines or with all
--- noted lines.
+-- If a crash comes at a moment from `old` to `new`, the file that it leaves has the lines that were kept before, followed by none or all of
+-- the noted lines.
 abbrev pub LeavesBoth : {D W : Type 0} → (D → List ℕ) → (D → ℕ) → (D → ℕ → List ℕ → Type 0) → Outbox D W → Outbox D W → Type 0
 LeavesBoth seen moment left_since old new = LeavesOnly moment left_since (disk_under old) (disk_under new) (IsBeforeOrAfter (kept_by seen old) (noted_by old))

@@ -32,7 +32,7 @@ answers = flat_map answer
 abbrev pub kept_line : List ℕ → Printed → List (List ℕ)
 kept_line l p = if is_kept p.turn then l ∷ [] else []
 
--- the lines that are kept, given the output of each line
+-- the lines that are kept, given what each line printed and how it ended; a line without an output is not kept
 abbrev pub kept_lines : List (List ℕ) → List Printed → List (List ℕ)
 kept_lines [] ps = []
 kept_lines (l ∷ ls) [] = []

@@ -31,9 +31,9 @@ fn is_over(end: LineEnd, line: &[u8]) -> bool
 /// the answers are written. So the lines that the reader has read ahead are put on the disk together, unless their answers have 65,536
 /// bytes or more.
 ///
-/// Fails with `Read` if a read fails, with `TooLong` if a line has more than `INPUT_BYTES` bytes or the input more than
-/// `u64::MAX - 1` lines, with `Journal` if the disk fails or the file is full, with `Write` if a write or a flush fails or a write
-/// takes no byte, and with `Memory` if memory is refused to the run itself.
+/// Fails with `Read` if a read fails; with `TooLong` if a line has more than `INPUT_BYTES` bytes, or the input more than `u64::MAX - 1`
+/// lines; with `Journal` if the disk fails, or the file is full; with `Write` if a write or a flush fails, or a write takes no byte; and
+/// with `Memory` if memory is refused to the run itself.
 pub fn run_dialogue<R: Read, S: Session, D: Disk, W: Write>(
     alloc: Global,
     reader: &mut BufReader<R>,

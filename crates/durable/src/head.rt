@@ -26,8 +26,8 @@ pub fn head_of(alloc: Global, digest: &[u8]) -> Result<Vec<u8>, AllocError>
     Ok(head)
 }
 
-/// Whether a crash may have left a file of these bytes before the journal had this head, or while the head was written. Called only for
-/// bytes that stand for no line.
+/// Whether a crash may have left a file with the content `bytes`, if the crash came before the head was written, or while it was written.
+/// Called only for bytes that stand for no line.
 fn is_unbegun(bytes: &[u8], head: &[u8]) -> bool {
     match bytes {
         [] => true,

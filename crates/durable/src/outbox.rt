@@ -1,4 +1,4 @@
-//! Answers are held back until the lines that they answer are on the disk.
+//! Answers are held back until the lines that were run and are to be kept are on the disk.
 ghost use Rattle.std.specs.Prelude.{◌≡◌, ◌≤◌, ◌⊎◌, [], IfErr, OnErr, OnOk};
 ghost use Rattle.std.specs.Io.KnownBytes.{Appends};
 ghost use Rattle.script_streams.specs.Streams.{AppendsFront};
@@ -71,7 +71,8 @@ impl<D: Disk, W> Outbox<D, W> {
 impl<D: Disk, W: Write> Outbox<D, W> {
     /// Runs a line and holds its answer back. Notes the line if it is to be kept. Writes nothing.
     ///
-    /// Fails only with `Memory`. After a failure, a part of the answer may be held back.
+    /// Fails only with `Memory`. After a failure the session may have run the line, and the answer or a part of it may be held back; but
+    /// the line is not noted.
     pub(crate) fn take<S: Session>(&mut self, session: &mut S, line: &[u8]) -> Result<(), RunFault>
         requires line { IsLine line.now }
         requires at_rest { IsAtRest D.seen D.may_leave self.old }

@@ -54,12 +54,12 @@ pub trait Twin: Session {
     /// (`alike`), it still is.
     ghost others: { (s t x : Self) (l : List ℕ) (p : Printed) → Self.Session.runs s l p t → is_kept_turn p.turn ≡ false → alike s x → alike t x };
 
-    /// If a session and its twin are the same (`alike`), and both keep a line, they are still the same after the line.
+    /// If a session and its twin are the same (`alike`), and both keep the same line, they are still the same after this line.
     ghost kept: { (s t x y : Self) (l : List ℕ) (p q : Printed) → Self.Session.runs s l p t → is_kept_turn p.turn ≡ true → alike s x
         → Self.Session.runs x l q y → is_kept_turn q.turn ≡ true → alike t y };
 
-    /// Let a line be kept by a session, and let its twin have nothing that concerns only the twin. Then the twin refuses this line only if
-    /// memory is refused.
+    /// Let a session and its twin be the same (`alike`), and let the twin have nothing that concerns only the twin (`is_alone`). If the
+    /// session keeps a line, the twin refuses this line only if memory is refused.
     ghost done: { (s t x y : Self) (l : List ℕ) (p q : Printed) → Self.Session.runs s l p t → is_kept_turn p.turn ≡ true → alike s x → is_alone x
         → Self.Session.runs x l q y → is_kept_turn q.turn ≡ false → is_lost_turn q.turn ≡ true };
 

@@ -18,9 +18,9 @@ use std::alloc::{AllocError, Global};
 use std::marker::Model;
 use std::mem;
 
-/// The layout of the values of an end in memory. Most ends have only objects: four bytes each. If a removal in a long list finds that the
-/// guess for the removed object is wrong, so that the objects are in no order, the list is `Shuffled` until `reserve` gives labels to the
-/// objects.
+/// The layout of the values of an end in memory. Most ends have only objects: four bytes each. Some removals from a long list check the
+/// guess at the index of the removed object (`is_tried`). If the guess is wrong, the objects are in no order. The list is then `Shuffled`
+/// until `reserve` gives labels to the objects, or `mix` makes the list `Mixed`.
 #[derive(Drop)]
 enum Layout {
     Objects(ShortList<ObjectNo>),
@@ -177,8 +177,8 @@ impl EndValueList {
         }
     }
 
-    /// Reserves capacity for more values. If a removal found that the objects are in no order, and there is memory for labels, gives labels
-    /// to the objects. Fails only if memory is refused for the values, and then the values stay and no capacity is lost.
+    /// Reserves capacity for more values. Also gives labels to the objects if a removal found that they are in no order, and if there is
+    /// memory for the labels. Fails only if memory is refused for the values, and then the values stay and no capacity is lost.
     pub fn reserve(&mut self, alloc: Global, additional: usize) -> Result<(), AllocError>
         ensures items { self.new.items ≡ self.old.items }
         ensures spare { self.old.spare ≤ self.new.spare }
@@ -198,7 +198,7 @@ impl EndValueList {
         }
     }
 
-    /// Gives the objects labels, if a removal found that they are in no order, and if there is memory for the labels.
+    /// Gives labels to the objects if a removal found that they are in no order. If there is no memory for the labels, nothing changes.
     #[cold]
     fn label(&mut self, alloc: Global)
         ensures items { self.new.items ≡ self.old.items }
@@ -249,8 +249,8 @@ impl EndValueList {
         }
     }
 
-    /// Checks the guess for the object at an index, which a removal is about to take out. Only the guesses at some indexes are checked
-    /// (`is_tried`). If the guess is wrong, the list becomes `Shuffled`, so that `reserve` gives it labels.
+    /// Called just before the value at `index` is taken out. Checks the guess for the object there, but only in the layout `Objects`, and
+    /// only at some indexes (`is_tried`). If the guess is wrong, the list becomes `Shuffled`, so that `reserve` gives it labels.
     fn try_guess(&mut self, index: usize)
         ensures { self.new ≡ self.old }
     {
@@ -348,7 +348,7 @@ fn position_in(list: &ShortList<ObjectNo>, value: &Value) -> Option<usize>
     }
 }
 
-/// A list that has the objects as values, with at least the same capacity for more. Fails only if memory is refused.
+/// A list that has the objects of `list` as values, with at least the capacity of `list` for more. Fails only if memory is refused.
 fn values_of(alloc: Global, list: &ShortList<ObjectNo>) -> Result<Box<MixedList>, AllocError>
     ensures items { IfOk result (λ b. b.value.items ≡ objects list.now.items) }
     ensures spare { IfOk result (λ b. list.now.spare ≤ b.value.spare) }
@@ -360,7 +360,7 @@ fn values_of(alloc: Global, list: &ShortList<ObjectNo>) -> Result<Box<MixedList>
     Ok(values)
 }
 
-/// Puts objects into `values`, which is empty and has capacity for the objects.
+/// Puts the objects of `list` into `values`, which is empty and has capacity for them.
 fn push_objects(values: &mut MixedList, list: &ShortList<ObjectNo>)
     requires room { length list.now.items ≤ values.old.spare }
     requires none { values.old.items ≡ [] }

@@ -26,10 +26,10 @@ pub(crate) fn is_out_of_order(list: &ShortList<ObjectNo>, index: usize) -> bool 
     }
 }
 
-/// A guess at the index of a value. For an object, the guess is made by the numbers of the objects, and may be wrong if the list has
-/// proxies. For a proxy, the guess is the index of the first proxy, if all objects come before all proxies; otherwise the guess may be any
-/// index. If a list of proxies is resolved in its order, all objects come before the proxies that are left, and the first of these proxies
-/// is resolved next.
+/// A guess at the index of a value. For an object, the guess is made by the numbers of the objects. It may be wrong if the numbers neither
+/// rise nor fall along the list, or if the list has proxies. For a proxy, the guess is the index of the first proxy, if all objects come
+/// before all proxies; otherwise the guess may be any index. If a list of proxies is resolved in its order, all objects come before the
+/// proxies that are left, and the first of these proxies is resolved next.
 #[cold]
 pub(crate) fn guess_value(list: &MixedList, value: &Value) -> usize {
     match value {
@@ -47,7 +47,7 @@ fn value_rank(value: Option<&Value>) -> Option<u64> {
     }
 }
 
-/// The index of the first proxy, if all objects come before all proxies. Otherwise any index, or the number of values.
+/// The index of the first proxy, if there is a proxy and all objects come before all proxies. Otherwise any index, or the number of values.
 fn first_text(list: &MixedList) -> usize {
     let mut low = 0;
     let mut high = list.len();

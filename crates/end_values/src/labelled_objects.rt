@@ -156,8 +156,8 @@ impl LabelledObjects {
         put_label(&mut self.labels, Some(&object), label);
     }
 
-    /// Takes out the object at an index. Some removals (`is_tried`) first look whether the object is found by its label, and give all
-    /// objects new labels if the object is not found. Takes no memory.
+    /// Takes out the object at an index. Some removals (`is_tried`) first look for the object by its label. If they don't find it, they
+    /// give all objects new labels. Takes no memory.
     #[cold]
     pub fn remove(&mut self, index: usize)
         requires { index < length self.old.items }
@@ -197,7 +197,8 @@ impl LabelledObjects {
     }
 }
 
-/// Gives an object a label, if there is an object and capacity for its label.
+/// Gives an object the label `label`, in place of any label that it has. Does nothing if there is no object, or if the object has no label
+/// and there is no capacity for one.
 fn put_label(labels: &mut IndexMap<u32, u64>, object: Option<&ObjectNo>, label: u64) {
     let Some(object) = object else {
         return;

@@ -1,7 +1,7 @@
 //! The values of one end of links: objects, and proxies.
 //!
-//! `EndValueList` keeps only the numbers of objects until `EndValueList::mix` is called, after which it can take proxies too. It guesses at
-//! which index a value is. `specs/EndValues.antt` says what a list holds, and `specs/Proxies.antt` what is known of the positions of
+//! `EndValueList` can hold only objects, as numbers, until `EndValueList::mix` is called. From then on it can hold proxies too. It guesses
+//! at which index a value is. `specs/EndValues.antt` says what a list holds, and `specs/Proxies.antt` what is known of the positions of
 //! proxies.
 #![tactic(auto)]
 

@@ -12,9 +12,10 @@ use slot_lists::SlotList;
 use std::alloc::{AllocError, Global};
 use std::marker::Model;
 
-/// A list of values, and an index before which there is no proxy. A search for a proxy begins at this index. Until a value is removed or
-/// moved, this index is the index of the first proxy, if there is a proxy. If no object is between the proxies, that stays true while they
-/// are resolved in the order of the list. After other removals and after moves the first proxy may come later.
+/// A list of values, and `start`, an index before which there is no proxy. A search for a proxy begins at `start`. Until a value is removed
+/// or moved, `start` is the index of the first proxy, if there is a proxy. It stays the index of the first proxy while the proxies are
+/// resolved in the order of the list, if no object is between the proxies. After other removals and after moves, the first proxy may come
+/// after `start`.
 #[derive(Drop)]
 pub(crate) struct MixedList {
     values: SlotList<Value>,
@@ -143,8 +144,8 @@ fn is_proxy_there(there: Option<&Value>) -> bool
     }
 }
 
-/// The new `start` of a list into which a value is inserted at `index`. If the list has no proxy before the index `start`, the list after
-/// the insert has none before the new index.
+/// The new `start` of a list into which a value is inserted at `index`; `is_proxy` says whether the value is a proxy. If no proxy is before
+/// the old `start` in the old list, no proxy is before the new `start` in the new list.
 fn start_after_insert(start: usize, index: usize, is_proxy: bool) -> usize
     ensures { (vs : List AnyValue) (v : AnyValue) → index ≤ length vs → proxies.is_proxy v ≡ is_proxy → proxies.HasNoProxyBefore start vs → proxies.HasNoProxyBefore result (insert vs index v) }
 {
@@ -157,8 +158,8 @@ fn start_after_insert(start: usize, index: usize, is_proxy: bool) -> usize
     start
 }
 
-/// The new `start` of a list from which the value at `index` is taken out. If the list has no proxy before the index `start`, the list
-/// after the removal has none before the new index.
+/// The new `start` of a list from which the value at `index` is taken out. If no proxy is before the old `start` in the old list, no proxy
+/// is before the new `start` in the new list.
 fn start_after_remove(start: usize, index: usize) -> usize
     ensures { (vs : List AnyValue) → proxies.HasNoProxyBefore start vs → proxies.HasNoProxyBefore result (remove vs index) }
 {

@@ -43,12 +43,12 @@ fn literals_in<'m>(alloc: Global, found: &'m Enumeration) -> Result<Vec<&'m str>
     Ok(literals)
 }
 
-/// The enumeration that is the type of a feature.
+/// The enumeration with the name `type_name`, which is the type of a feature; `None` if no enumeration has this name.
 fn enumeration_of<'m>(raw: &'m RawMeta, type_name: &str) -> Option<&'m Enumeration> {
     enum_at(raw, enum_named(raw, type_name)?)
 }
 
-/// Explains a default that is no literal of its type.
+/// Explains the default `literal`, which is no literal of the type `type_name`.
 fn explain_literal(
     alloc: Global,
     out: &mut String,
@@ -74,7 +74,7 @@ fn explain_literal(
     }
 }
 
-/// Explains a default of a many-valued attribute, or a default that is no literal.
+/// Explains a default of a many-valued attribute, or a default that is no literal of the attribute's type.
 pub(crate) fn explain_default(
     alloc: Global,
     out: &mut String,

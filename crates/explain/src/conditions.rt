@@ -23,8 +23,8 @@ fn bad_literal(raw: &RawMeta, i: usize) -> Option<&str> {
     None
 }
 
-/// The badly written name at a place: the name of the enumeration, class or feature there, or a literal. If an enumeration itself has a
-/// right name, returns the first of its literals that is no name.
+/// The badly written name at a place: the name of the enumeration, class or feature there. If the name of an enumeration is well written,
+/// the badly written name is the first of its literals that is no name.
 fn bad_name(at: Named<'_>) -> &str {
     let name = name_at(at.raw, at.place);
     match at.place {

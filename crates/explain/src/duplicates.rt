@@ -39,7 +39,8 @@ fn features_of(alloc: Global, raw: &RawMeta, class: usize) -> Result<Vec<Place>,
     ancestry.features(alloc, raw)
 }
 
-/// Two places with the same name, the earlier place first. The later place is the first one whose name an earlier place has.
+/// Two places with the same name, the earlier place first; `None` if no two places have the same name. The later place is the first place
+/// whose name an earlier place has.
 fn clash_in(
     alloc: Global,
     raw: &RawMeta,

@@ -48,7 +48,8 @@ pub(crate) const ATTRIBUTE: [Field; 8] = [
 /// The keys of a reference.
 pub(crate) const REFERENCE: [Field; 7] = [NAME, KIND, TYPE, LOWER, UPPER, CONTAINMENT, OPPOSITE];
 
-/// The keys of attributes together with the keys of references, for a feature whose kind is neither of the two.
+/// The keys of attributes together with the keys of references, for a feature that lacks a kind, or whose kind is neither `attribute` nor
+/// `reference`.
 pub(crate) const FEATURE: [Field; 10] = [
     NAME,
     KIND,

@@ -4,8 +4,8 @@ use mm_types::{Place, RawMeta};
 use std::alloc::{AllocError, Global};
 use std::fmt;
 
-/// A class that was reached through supertypes. `before` is the position, among the reached classes, of a class of which `class` is a
-/// direct supertype. For the class at which the search begins, `before` is 0.
+/// A class that was reached through supertypes: `class` is a direct supertype of the class at the position `before` among the reached
+/// classes. For the class at which the search begins, `before` is 0.
 #[derive(Drop)]
 struct Reached {
     class: usize,

@@ -108,9 +108,9 @@ fn explain_listed(
     }
 }
 
-/// Adds a line for each key that an object has but no field names, for each required key that the object lacks, and for each value that is
-/// not written as its field says. A `json` that is no object gets one line. `out` is the explanation of one document; if `out` already has
-/// more than 4,096 bytes, nothing is added. Fails only if memory is refused.
+/// Adds a line for each key of an object for which there is no field, for each required key that the object lacks, and for each value that
+/// is not written as its field says. A `json` that is no object gets one line. `out` is the explanation of one document; if `out` already
+/// has more than 4,096 bytes, nothing is added. Fails only if memory is refused.
 pub fn explain_object(
     alloc: Global,
     out: &mut String,

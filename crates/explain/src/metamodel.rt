@@ -8,7 +8,7 @@ use mm_types::{Condition, MetaFault, Place};
 use serde_json::Value;
 use std::alloc::{AllocError, Global};
 
-/// Explains from which place on the bytes are no JSON. If they are JSON, explains what is wrong with the layout.
+/// If the bytes are no JSON, says from which line and column on they are no JSON. Otherwise explains what is wrong with the layout.
 fn explain_bytes(alloc: Global, out: &mut String, bytes: &[u8]) -> Result<(), AllocError> {
     match Value::from_slice(alloc, bytes) {
         Ok(json) => explain_layout(alloc, out, &json),

@@ -12,7 +12,7 @@ fn declared_of<'m>(raw: &'m RawMeta, feature: &RawFeature, name: &str) -> Option
     feature_named(class_at(raw, class)?, name)
 }
 
-/// The name of the class that declares the feature at a place.
+/// The name of the class that declares the feature at a place; empty for the place of an enumeration or a class.
 fn owner_of(at: Named<'_>) -> &str {
     match at.place {
         Place::Feature(c, _) => name_at(at.raw, Place::Class(c)),
@@ -32,7 +32,7 @@ enum Wrong<'m> {
     IsItself,
 }
 
-/// What is wrong with a feature that a reference names as its opposite.
+/// What is wrong with `other`, the feature that the reference `feature` names as its opposite. `at` is the place of the reference.
 fn wrong_with<'m>(at: Named<'_>, feature: &RawFeature, other: &'m RawFeature) -> Wrong<'m> {
     if matches!(other.kind, RawKind::Attribute { .. }) {
         return Wrong::IsAttribute;

@@ -25,7 +25,7 @@ fn enum_names<'m>(alloc: Global, raw: &'m RawMeta) -> Result<Vec<&'m str>, Alloc
     Ok(names)
 }
 
-/// Explains a name that is not among the allowed names.
+/// Explains a name that is not among the allowed names `names`; `wanted` says what the name has to name, such as a class.
 fn explain_name(
     alloc: Global,
     out: &mut String,

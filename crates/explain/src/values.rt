@@ -23,7 +23,7 @@ fn explain_other(out: &mut String, at: Keyed<'_>, wanted: &str) -> Result<(), Al
     )
 }
 
-/// The words for a text of at most `most` bytes.
+/// The words for a text of at most `most` bytes; `most` is `NAME_BYTES` or `TEXT_BYTES`.
 fn text_of(most: usize) -> &'static str {
     if most == NAME_BYTES {
         "a text of at most 255 bytes"

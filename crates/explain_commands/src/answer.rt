@@ -87,8 +87,8 @@ fn refusal_named(name: &str) -> Option<Refused> {
     None
 }
 
-/// The refusal in the words that an answer has after the word `refused`. The last word is the name of the refusal, or of the cause in the
-/// document.
+/// The refusal that `words` give: the words that an answer has after the word `refused`. The last word is the name of the refusal or, if a
+/// document is refused, the name of the cause. `None` if no refusal or no cause has this name.
 fn refusal_in(words: &str) -> Option<Refused> {
     let (front, name) = words.rsplit_once(' ')?;
     if front.starts_with("18 ") {

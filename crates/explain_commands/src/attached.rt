@@ -46,7 +46,8 @@ impl<L: LinkStore, A: Adapter> Scene<'_, L, A> {
         }
     }
 
-    /// The attached adapter that got the most notifications, and how many it got. Of several such adapters it is the last.
+    /// The attached adapter that got the most notifications, and how many it got. If several adapters got as many, it is the one with the
+    /// highest number. `None` if no adapter is attached.
     fn fullest(&self) -> Option<(u32, u64)> {
         let mut found = None;
         let mut most = 0;
@@ -61,7 +62,7 @@ impl<L: LinkStore, A: Adapter> Scene<'_, L, A> {
         found
     }
 
-    /// Explains that an adapter can't count the notifications that it would get. Names the adapter of the line; if the line names none, the
+    /// Explains that an adapter can't count the notifications that it would get. If the line names no adapter, the explanation names the
     /// attached adapter that got the most notifications.
     pub(crate) fn explain_full(&self, out: &mut String, form: &Form<'_>) -> Written {
         let prefix = self.prefix;

@@ -16,7 +16,7 @@ pub(crate) const SHOWN_BYTES: usize = 60;
 pub(crate) const URI_BYTES: usize = 200;
 
 impl<'s, L: LinkStore, A: Adapter> Scene<'s, L, A> {
-    /// The name of an object: the text of its feature `name`.
+    /// The name of an object: the text of its feature `name`; `None` if the object has no text there.
     fn name_of(&self, object: ObjectNo, class: ClassNo) -> Option<&'s str> {
         let repository = self.repository;
         let feature = repository.meta().feature_by_name(class, "name")?;

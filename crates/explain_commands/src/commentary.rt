@@ -56,7 +56,8 @@ impl Commentary {
         }
     }
 
-    /// Notes that the next line is the first line of the script. Lines that were run before it, which a journal had kept, are not counted.
+    /// Notes that the next line is the first line of the script. The lines of a journal, if there is one, were run before it and are not
+    /// counted.
     pub fn begin(&mut self) {
         self.number = 0;
     }
@@ -179,7 +180,7 @@ impl Commentary {
     }
 
     /// Explains why the command of a form was refused, in lines that begin with the prefix. The repository has to be as it was when the
-    /// command was refused. Fails only if memory is refused.
+    /// command was refused. The explanation of the refusal `Memory` is empty. Fails only if memory is refused.
     pub fn explained<L: LinkStore, A: Adapter>(
         &self,
         repository: &Repository<L, A>,

@@ -17,7 +17,8 @@ struct TooHigh {
     last: Option<u32>,
 }
 
-/// The index `index` as too high, if it is not below `count`; otherwise `None`. The command accepts the indexes below `count`.
+/// `index`, with the last index that the command accepts, if `index` is too high; otherwise `None`. The command accepts the indexes below
+/// `count`.
 fn above(index: u32, count: u32) -> Option<TooHigh> {
     if index < count {
         return None;
@@ -28,8 +29,8 @@ fn above(index: u32, count: u32) -> Option<TooHigh> {
     })
 }
 
-/// The index that a line gives, if it is too high for a list of `len` values; otherwise `None`. If both indexes of `move` are too high, it
-/// is the index from which the value is moved.
+/// The index that a line gives, if it is too high for a list of `len` values; otherwise `None`. If both indexes of `move` are too high, the
+/// result is the index from which the value is moved.
 fn too_high(form: &Form<'_>, len: u32) -> Option<TooHigh> {
     let Form::At { form, .. } = form else {
         return None;

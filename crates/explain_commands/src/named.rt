@@ -36,7 +36,7 @@ fn feature_in<'a>(form: &Form<'a>) -> Option<&'a str> {
     }
 }
 
-/// The object that a line names first, if the line can name only an object there.
+/// The object that a line names first, if the line can't name a resource in its place.
 fn object_in(form: &Form<'_>) -> Option<ObjectNo> {
     match form {
         Form::Delete(object) | Form::Read(Read::Of(object, _)) => Some(*object),

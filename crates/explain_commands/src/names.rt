@@ -43,7 +43,7 @@ impl<L: LinkStore, A: Adapter> Scene<'_, L, A> {
         )
     }
 
-    /// Explains a name that is no feature of an object's class.
+    /// Explains that `name` is no feature of the class `class`, whose features have the names `names`.
     fn explain_unknown(
         &self,
         out: &mut String,

@@ -7,7 +7,7 @@ use mm_types::{End, Node, Refused};
 use script_lines::Form;
 
 impl<L: LinkStore, A: Adapter> Scene<'_, L, A> {
-    /// Explains a refusal of a line that makes an object.
+    /// Explains the refusals `NoClass` and `Abstract` of a line that makes an object.
     fn explain_class(&self, out: &mut String, form: &Form<'_>, refused: Refused) -> Written {
         match (form, refused) {
             (Form::New { class }, Refused::NoClass) => self.explain_no_class(out, class.as_str()),
@@ -16,7 +16,7 @@ impl<L: LinkStore, A: Adapter> Scene<'_, L, A> {
         }
     }
 
-    /// Explains a refusal of a line that resolves a proxy.
+    /// Explains the refusals that only a line with `resolve` can have: `NotProxy`, `Unloaded`, `Unresolved` and `Unmatched`.
     fn explain_resolve(
         &self,
         out: &mut String,
@@ -62,7 +62,7 @@ impl<L: LinkStore, A: Adapter> Scene<'_, L, A> {
         }
     }
 
-    /// Explains a refusal of a line that names a node and no feature.
+    /// Explains the refusals `Dangling`, `TooDeep` and `NotEmpty` of a line that names a node and no feature.
     fn explain_node(&self, out: &mut String, named: &Named<'_>, refused: Refused) -> Written {
         match (named.node, refused) {
             (Some(node), Refused::Dangling) => self.explain_dangling(out, node),

@@ -33,7 +33,7 @@ fn is_of_the_web(scheme: &str) -> bool {
 }
 
 impl<L: LinkStore, A: Adapter> Scene<'_, L, A> {
-    /// Explains a text that is no URI of a resource.
+    /// Explains why a text can't be the URI of a resource.
     fn explain_uri(&self, out: &mut String, text: &str) -> Written {
         let prefix = self.prefix;
         let shown = front_of(text, URI_BYTES);
@@ -57,7 +57,7 @@ impl<L: LinkStore, A: Adapter> Scene<'_, L, A> {
         }
     }
 
-    /// Explains the text of a `resource` line that is no URI of a resource, or the text of an `at` line that is no address.
+    /// Explains the text of a `resource` line that can't be the URI of a resource, or the text of an `at` line that is no address.
     pub(crate) fn explain_bad_uri(&self, out: &mut String, form: &Form<'_>) -> Written {
         let prefix = self.prefix;
         match form {
@@ -74,7 +74,7 @@ impl<L: LinkStore, A: Adapter> Scene<'_, L, A> {
     }
 }
 
-/// The resource of a URI; `uris` has the URIs of all resources in the order of their numbers.
+/// The resource that has the URI `uri`; `None` if no resource has it. `uris` has the URIs of all resources in the order of their numbers.
 pub(crate) fn resource_of(uris: &[String], uri: &str) -> Option<ResourceNo> {
     for (number, other) in uris.iter().enumerate() {
         if other.as_str() == uri {

@@ -53,7 +53,7 @@ impl<L: LinkStore, A: Adapter> Scene<'_, L, A> {
         matches!(self.repository.e_resource(object), Ok(None))
     }
 
-    /// The first object in no resource to which an end refers.
+    /// The first value at an end that is an object in no resource.
     fn outside_at(&self, end: End) -> Option<ObjectNo> {
         if let Ok(found) = self.repository.value(end.node, end.feature) {
             return match found {
@@ -157,8 +157,9 @@ impl<L: LinkStore, A: Adapter> Scene<'_, L, A> {
         Ok(())
     }
 
-    /// Explains the refusal `Dangling`. If the line names an object, the object is in no resource. If the line names a resource, the first
-    /// object of the resource that refers to an object in no resource is explained.
+    /// Explains the refusal `Dangling`. If the line names an object, this object is in no resource. If the line names a resource, some
+    /// objects of the resource refer to objects that are in no resource. The objects of the resource are searched level by level, and the
+    /// first that refers to an object in no resource is explained.
     pub(crate) fn explain_dangling(&self, out: &mut String, node: Node) -> Written {
         match node {
             Node::Object(object) => {

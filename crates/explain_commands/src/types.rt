@@ -63,7 +63,7 @@ impl<L: LinkStore, A: Adapter> Scene<'_, L, A> {
 }
 
 impl<'s, L: LinkStore, A: Adapter> Scene<'s, L, A> {
-    /// The literal of a feature's enumeration that is nearest to a written literal; `None` if no literal is near, or if the feature has no
+    /// The literal of a feature's enumeration that is nearest to `written`; `None` if no literal is near, or if the feature has no
     /// enumeration as its type.
     fn meant_literal(
         &self,
@@ -78,7 +78,8 @@ impl<'s, L: LinkStore, A: Adapter> Scene<'s, L, A> {
         nearest(self.alloc, written, names.as_slice())
     }
 
-    /// The literal of a feature's enumeration that is nearest to a text or a literal of a line; `None` for any other value.
+    /// The literal of a feature's enumeration that is nearest to `value`, if `value` is a text or a literal. `None` for any other value,
+    /// and if `meant_literal` returns `None`.
     fn meant_value(
         &self,
         feature: FeatureNo,

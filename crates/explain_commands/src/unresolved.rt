@@ -20,7 +20,7 @@ impl<'s, L: LinkStore, A: Adapter> Scene<'s, L, A> {
         }
     }
 
-    /// The address of the proxy at an index of a reference.
+    /// The address of the proxy at an index of a reference; `None` if no proxy is there.
     fn address_at(&self, end: End, index: u32) -> Option<&'s str> {
         match self.found_at(end, index) {
             Some(Found::Proxy(text)) => Some(text),
@@ -28,7 +28,7 @@ impl<'s, L: LinkStore, A: Adapter> Scene<'s, L, A> {
         }
     }
 
-    /// The two parts of a proxy's address, the URI and the fragment. The proxy is at an index of a reference.
+    /// The URI and the fragment in the address of the proxy at an index of a reference; `None` if no proxy is there.
     fn parts_at(&self, end: End, index: u32) -> Option<(&'s str, &'s str)> {
         split_address(self.address_at(end, index)?)
     }

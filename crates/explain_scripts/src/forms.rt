@@ -38,7 +38,7 @@ pub(crate) static FORMS: [&str; 28] = [
 /// A word of a form that stands for any word of a kind, as `NAME` stands for any name.
 pub(crate) struct Sort {
     name: &'static str,
-    /// The beginning of a line. This beginning with one more word has one of the forms exactly if the word is of this kind.
+    /// The beginning of a line. If one word is added to this beginning, the line has one of the forms exactly if the word is of this kind.
     before: &'static str,
     /// What a word of this kind is, in words for a reader.
     pub(crate) wanted: &'static str,
@@ -102,7 +102,7 @@ pub(crate) fn sort_of(word: &str) -> Option<&'static Sort> {
     None
 }
 
-/// Whether a word of a line is of a kind. Fails only if memory is refused.
+/// Whether a word of a line is of the kind `sort`. Fails only if memory is refused.
 pub(crate) fn is_of(alloc: Global, sort: &Sort, word: &str) -> Result<bool, AllocError> {
     let before = sort.before;
     let line = format!(in alloc; "{before} {word}")?;
@@ -120,7 +120,7 @@ pub(crate) fn count_of(form: &str) -> usize {
     form.split(' ').count()
 }
 
-/// The form with this verb and `count` words; or else the first form with this verb.
+/// The form with the verb `verb` and `count` words. If there is no such form, the first form with the verb; `None` if no form has the verb.
 pub(crate) fn form_of(verb: &str, count: usize) -> Option<&'static str> {
     let mut found = None;
     for form in FORMS.iter() {

@@ -7,7 +7,8 @@ use web_uris::{UriFault, address_of, joined, parse, split_address};
 /// What the text of a reference leads to.
 #[derive(Drop)]
 pub(crate) enum Led {
-    /// The text is no fragment, and no URI or relative reference with a fragment.
+    /// The text has no `#` and is no fragment; or the text after its first `#` is no fragment; or the text before its first `#` is not
+    /// empty and, joined with the URI of the document's resource, gives no URI.
     Bad,
     /// The text leads into the document, but to no object.
     Nowhere,
@@ -34,7 +35,7 @@ pub(crate) fn fragments_of<'p>(
 }
 
 /// What an address leads to; `None` if the address leads into the document itself. The address is given by two parts: `part` is the text
-/// before its `#`, or empty, and `fragment` is the text after the `#`.
+/// before its `#`, or empty, and `fragment` is the text after the `#`. `uri` is the URI of the document's resource.
 fn led_elsewhere(
     alloc: Global,
     uri: &str,
@@ -52,8 +53,8 @@ fn led_elsewhere(
     }
 }
 
-/// What the text of a reference leads to, if the reference is in the document of the resource with the URI `uri`. Fails only if memory is
-/// refused.
+/// What `text` leads to, as the text of a reference in a document. `uri` is the URI of the document's resource, and `fragments` has the
+/// numbers of the document's parts. Fails only if memory is refused.
 pub(crate) fn led_by(
     alloc: Global,
     uri: &str,

@@ -59,7 +59,7 @@ fn add_links<'e>(
     Ok(())
 }
 
-/// The class of the objects that a reference without containment holds.
+/// The class of the objects that a reference without containment holds; `None` for any other feature.
 fn target_of(meta: &Meta, feature: FeatureNo) -> Option<ClassNo> {
     match &meta.feature(feature)?.kind {
         Kind::Reference {
@@ -85,7 +85,8 @@ fn links_in<'e>(
     Ok(links)
 }
 
-/// The references that are written in a document of the resource with the URI `uri`. Fails only if memory is refused.
+/// The `Link`s of a document: the texts among the values of references without containment. `uri` is the URI of the document's resource,
+/// `parts` are the parts of the document, and `entries` are their contents. Fails only if memory is refused.
 pub(crate) fn links_of<'e>(
     alloc: Global,
     meta: &Meta,

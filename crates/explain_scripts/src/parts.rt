@@ -63,7 +63,7 @@ impl Entry<'_> {
     }
 }
 
-/// Adds the content of a feature of a part.
+/// Adds to `entries` the content that the part with the number `number` has for a feature, if it has one (`content_at`).
 fn add_entry<'v>(
     alloc: Global,
     meta: &Meta,
@@ -111,7 +111,7 @@ fn add_entries<'v>(
     Ok(())
 }
 
-/// The contents of the features of parts.
+/// The contents of the features of some parts. A part whose class is not known (`known`) has no entry.
 pub(crate) fn entries_of<'v>(
     alloc: Global,
     meta: &Meta,
@@ -124,7 +124,7 @@ pub(crate) fn entries_of<'v>(
     Ok(entries)
 }
 
-/// Adds the parts that are under a containment of a part.
+/// Adds to `queue` the parts of `values`, which are the values of the containment `name` of `part`.
 fn add_below<'v>(
     alloc: Global,
     queue: &mut VecDeque<Part<'v>>,
@@ -197,7 +197,8 @@ fn roots_of<'v>(
     Ok(queue)
 }
 
-/// The part of each object, level by level.
+/// The parts of a document, level by level: one for each of `roots`, and one for each value of a containment. If the class of a part is not
+/// known (`known`), the values of its containments are left out. Each path begins with `prefix`.
 pub(crate) fn parts_of<'v>(
     alloc: Global,
     meta: &Meta,

@@ -26,7 +26,7 @@ fn explain_equal(
     Ok(())
 }
 
-/// The values of a unique attribute; none for other features.
+/// The values of an entry whose feature is a unique attribute; none for any other entry.
 fn unique_values<'v>(meta: &Meta, entry: &Entry<'v>) -> &'v [Value] {
     let is_attribute = match meta.feature(entry.feature) {
         Some(feature) => matches!(feature.kind, Kind::Attribute { .. }),

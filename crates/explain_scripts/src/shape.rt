@@ -44,8 +44,8 @@ pub(crate) fn explain_top(
     explain_object(alloc, out, prefix, &DOCUMENT, json)
 }
 
-/// Explains the keys of each object. A value that is no object is a fault of the layout only if it is a root; under a containment its cause
-/// is `Value`.
+/// Explains the keys of each object. A value that is no object is a fault of the layout only if it is a root. Under a containment, it is a
+/// fault with the cause `Value`.
 pub(crate) fn explain_objects(
     alloc: Global,
     out: &mut String,
@@ -166,7 +166,7 @@ pub(crate) fn explain_names(
     Ok(())
 }
 
-/// Explains the first object that is below the last level.
+/// Explains the first object below level `limits::LEVELS`, the last level that a document can have.
 pub(crate) fn explain_depth(out: &mut String, parts: &[Part<'_>]) -> Result<(), AllocError> {
     for part in parts {
         if part.level > limits::LEVELS {

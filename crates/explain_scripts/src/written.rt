@@ -25,7 +25,7 @@ pub(crate) fn known<'v>(meta: &Meta, json: &'v Value) -> Option<(ClassNo, &'v Ma
     Some((class, features))
 }
 
-/// Whether an object is of a class that conforms to the class `target`.
+/// Whether an object is of a class that conforms to the class `target`; false if its class is not known (`known`).
 pub(crate) fn conforms_to(meta: &Meta, target: ClassNo, json: &Value) -> bool {
     match class_of(meta, json) {
         Some(class) => meta.conforms(class, target),
@@ -33,7 +33,8 @@ pub(crate) fn conforms_to(meta: &Meta, target: ClassNo, json: &Value) -> bool {
     }
 }
 
-/// What an object has under the name of a feature. `None` if the object does not have the name, or if the feature is a container reference.
+/// The content of a feature: the value of the member that has the feature's name. `None` if no member has this name, or if the feature is a
+/// container reference.
 pub(crate) fn content_at<'v>(
     meta: &Meta,
     members: &'v Map<String, Value>,

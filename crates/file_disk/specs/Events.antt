@@ -4,7 +4,8 @@ use Rattle.std.specs.Coded.{Coded, code_by, coded_bool, coded_list, coded_ℕ, c
 use Rattle.std.proofs.Common.{arith, inl, inr}
 use Rattle.journal.specs.Disk.{PartlyCut, Torn}
 
--- a call, with its arguments; the truth value says whether the call succeeded, and `opened` is an event only after success
+-- a call with its arguments; the truth value says whether the call succeeded. A call that opens the file is an event (`opened`) only if it
+-- succeeded
 pub data Event : Type 0 where
   opened : List ℕ → Event
   written : ℕ → List ℕ → Bool → Event
@@ -39,7 +40,7 @@ event_code =
     code_by Parts (coded⊎ (coded_list coded_ℕ) (coded⊎ (coded× coded_ℕ (coded× (coded_list coded_ℕ) coded_bool)) (coded⊎ (coded× coded_ℕ coded_bool) coded_bool)))
     parts_of of_parts of_parts-parts_of
 
--- ---- after some events; the first of the list is the newest
+-- ---- the file after some events; the first event of a list is the newest
 
 abbrev pub file_bytes_after : Event → List ℕ → List ℕ
 file_bytes_after (opened bytes) old = bytes
@@ -58,12 +59,12 @@ left_after (written at bytes done) old left c = (d : List ℕ) × left d × Torn
 left_after (cut len done) old left c = (d : List ℕ) × left d × PartlyCut len d c
 left_after (synced done) old left c = left c × (done ≡ true → c ≡ old)
 
--- a crash may leave a file of these bytes
+-- a crash after the events may leave a file with the bytes c
 abbrev pub MayLeave : List Event → List ℕ → Type 0
 MayLeave [] c = c ≡ []
 MayLeave (e ∷ es) c = left_after e (file_bytes es) (MayLeave es) c
 
--- at some moment after t or more events, a crash could have left a file of these bytes
+-- at some moment after t or more of the events, a crash could have left a file with the bytes c
 abbrev pub LeftSince : List Event → ℕ → List ℕ → Type 0
 LeftSince [] t c = (t ≤ 0) × MayLeave [] c
 LeftSince (e ∷ es) t c = ((t ≤ length (e ∷ es)) × MayLeave (e ∷ es) c) ⊎ LeftSince es t c

@@ -1,4 +1,4 @@
--- A file of the system, as the events of the calls on it.
+-- The calls that were made on a file of the system, and what a call of a disk returns.
 use Rattle.std.specs.Prelude.{Bool, true, false, List, Result, Ok, Err}
 use Rattle.journal.specs.declared.disk.DiskFault.{DiskFault}
 use Rattle.journal.specs.declared.disk.DiskFault.TheVariants.{Failed}

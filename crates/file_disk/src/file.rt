@@ -43,8 +43,8 @@ fn sync_folder(rt: &HostRuntime, path: &str) -> io::Result<()> {
 
 /// Opens a file, or makes the file if there is none. Returns the file as a disk, and its bytes.
 ///
-/// The bytes that an earlier process wrote are put on the disk before they are read. So from then on a crash leaves the bytes that were
-/// read.
+/// The bytes that an earlier process wrote are put on the disk before they are read. So a crash leaves the bytes that were read, until the
+/// file is written or cut.
 pub fn open(rt: &HostRuntime, path: &str) -> Result<(FileDisk, Vec<u8>), OpenFault>
     ensures bytes { IfOk result (λ opened. file_bytes (events_of opened.0) ≡ opened.1.items) }
     ensures durable { IfOk result (λ opened. IsDurable (file_bytes (events_of opened.0)) (MayLeave (events_of opened.0))) }

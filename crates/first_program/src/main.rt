@@ -80,7 +80,8 @@ fn print_reply<W: Write>(writer: &mut W, reply: Reply<Tally>) -> Result<(), io::
     print_counts(writer, reply.released.as_slice())
 }
 
-/// Gives a book a title. The contract is that of the call: the step of the command `set`, or a refusal that changes nothing.
+/// Gives a book a title. The function has the same contract as `e_set`: it does the step of the command `set`, or is refused and changes
+/// nothing.
 fn set_title<L: LinkStore>(
     repository: &mut Repository<L, Tally>,
     book: ObjectNo,
@@ -140,8 +141,7 @@ fn metamodel(alloc: Global) -> Result<Meta, MetaFault> {
     check_document(alloc, LIBRARY.as_bytes())
 }
 
-/// Loads the saved documents of one repository into a second one, and prints how many objects the only resource of the second one contains
-/// directly.
+/// Loads the only resource of `first`, as it is saved, into `second`, and prints how many objects this resource contains directly.
 fn load_second<L: LinkStore, W: Write>(
     writer: &mut W,
     first: &Repository<L, Tally>,

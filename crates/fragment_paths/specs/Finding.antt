@@ -24,7 +24,8 @@ goes_by r s f = is_containment r.metamodel f && (if (shape r.metamodel f).is_sin
 abbrev pub if_goes_by : Reading → Step → FeatureNo → Option FeatureNo
 if_goes_by r s f = if goes_by r s f then Some f else None
 
--- the feature of an object through which a step leads: the feature that has the step's name, if the step leads through this feature
+-- the feature through which the step s leads from the object o: the feature of o's class that has the step's name. None if the class has no
+-- feature with this name, or if s doesn't lead through the feature (`goes_by`)
 abbrev pub feature_of : Reading → ObjectNo → Step → Option FeatureNo
 feature_of r o s =
     option_and_then (λ c. option_and_then (if_goes_by r s) (lookups.feature_by_name r.metamodel c s.name)) (r.class o)
@@ -46,7 +47,8 @@ find r k p = option_and_then (object_after_steps r p.steps) (slice_get (roots r 
 abbrev pub found_by : Reading → ResourceNo → List ℕ → Option ObjectNo
 found_by r k t = option_and_then (find r k) (parse t)
 
--- the object at an address: the text before the first `#` is the URI of the resource, the text after it the fragment
+-- the object at an address: the text before the first `#` is the URI of the resource, and the text after it is the fragment. None if there
+-- is no `#`, if no resource has the URI, or if no object is at the fragment
 abbrev pub at : Reading → List ℕ → Option ObjectNo
 at r t =
     if has_mark t then option_and_then (λ k. found_by r k (fragment_part t)) (resource_named r (uri_part t)) else None

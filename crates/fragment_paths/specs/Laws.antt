@@ -49,8 +49,7 @@ HasImagesOfRoots m v w a b k j image =
     (i : ℕ) (c : ObjectNo) → slice_get (values_at (model_of m v a) (at_end (node.Resource k) (lookups.contents m))) i ≡ Some (value.Object c)
     → slice_get (values_at (model_of m w b) (at_end (node.Resource j) (lookups.contents m))) i ≡ Some (value.Object (image c))
 
--- if an object of resource k contains an object c, the image of the first object contains the image of c, under the same feature at the
--- same position
+-- if an object o of resource k contains an object c, the image of o contains the image of c, under the same feature at the same position
 abbrev pub HasImagesOfParts : Metamodel → ValuesState → ValuesState → Links → Links → ResourceNo → (ObjectNo → ObjectNo) → Type 0
 HasImagesOfParts m v w a b k image =
     (o : ObjectNo) (f : FeatureNo) (i : ℕ) (c : ObjectNo) → resource_of (above a) o ≡ Some k → is_containment m f ≡ true

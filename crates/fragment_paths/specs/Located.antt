@@ -18,7 +18,7 @@ path_by r e o steps = new_path (position_in r e o) (reverse steps)
 abbrev pub location_of : Reading → ObjectNo → Option Located
 location_of r o = option_and_then (λ k. option_map (λ p. record { resource = k; path = p }) (path_of r o)) (resource_of r.above o)
 
--- the text of a located object's path, as it is written in its resource
+-- the text of the path of a located object. The text leaves out the index of the root if the resource has one root
 abbrev pub located_text : Reading → Located → List ℕ
 located_text r x = path_text (has_one_root r x.resource) x.path
 

@@ -19,8 +19,8 @@ fn goes_by<L: LinkStore>(model: &ModelRef<L>, step: &Step, feature: FeatureNo) -
     meta.is_containment(feature) && meta.is_single(feature) != step.index.is_some()
 }
 
-/// The feature of an object through which a step leads: the feature that has the step's name. `None` if the object's class has no feature
-/// of that name, or if the step doesn't lead through this feature.
+/// The feature through which a step leads from an object: the feature of the object's class that has the step's name. `None` if the class
+/// has no feature with this name, or if the step doesn't lead through the feature (`goes_by`).
 fn feature_of<L: LinkStore>(model: &ModelRef<L>, object: ObjectNo, step: &Step) -> Option<FeatureNo>
     ensures { result ≡ finding.feature_of (reading model.now) object step.now }
 {

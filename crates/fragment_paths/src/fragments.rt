@@ -43,8 +43,8 @@ fn fragment_by<L: LinkStore>(
 }
 
 /// The fragment of an object in its resource (EMF: Resource.getURIFragment): `/`, then the position of the root on the way to the object,
-/// which is left out if the resource has one root, and then a step for each further object on the way. `None` if the object is in no
-/// resource. Fails only if memory is refused.
+/// and then a step for each further object on the way. The position of the root is left out if the resource has one root. `None` if the
+/// object is in no resource. Fails only if memory is refused.
 pub fn write<L: LinkStore>(
     alloc: Global,
     model: &ModelRef<L>,
@@ -91,7 +91,7 @@ pub fn address<L: LinkStore>(
     }
 }
 
-/// How a resource refers to an object (EMF: XMLHelper.getHREF): by the object's fragment if the object is in that resource too, and
+/// How the resource `from` refers to an object (EMF: XMLHelper.getHREF): by the object's fragment if the object is in `from` too, and
 /// otherwise by the object's address. `None` if the object is in no resource. Fails only if memory is refused.
 pub fn reference<L: LinkStore>(
     alloc: Global,

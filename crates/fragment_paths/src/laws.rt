@@ -23,9 +23,10 @@ pub fn addresses_follow_from_what_contains_what()
     ensures { (m : Metamodel) (v w : ValuesState) (a b : Links) → IsLegal (model_of m v a) → IsLegal (model_of m w b) → HaveSameParts m v w a b → LeavesAddresses m v w a b }
 {}
 
-/// Let two models of one metamodel have a resource each, and let each object of the first resource have an image in the second model. If
-/// the images of roots are roots of the second resource at the same positions, and the image of each object contains the images of the
-/// object's contents at the same positions, then the image of each object is in the second resource and has the same path as the object.
+/// Take a resource in each of two models of one metamodel. Let each object of the first resource have an image in the second model. Let the
+/// image of each root be a root of the second resource at the same position. Let the image of each object contain the images of the
+/// object's contents, under the same features and at the same positions. Then the image of each object is in the second resource and has
+/// the same path as the object.
 pub fn parts_at_the_same_positions_have_the_same_paths()
     ensures { (m : Metamodel) (v w : ValuesState) (a b : Links) (k j : ResourceNo) (image : ObjectNo → ObjectNo) → IsLegal (model_of m v a) → IsLegal (model_of m w b) → HasImagesOfRoots m v w a b k j image → HasImagesOfParts m v w a b k image → (o : ObjectNo) → resource_of (above a) o ≡ Some k → IsImageAt m v w a b j image o }
 {}

@@ -75,8 +75,8 @@ impl<'m, 'a, L: LinkStore> Positions<'m, 'a, L> {
         self.model
     }
 
-    /// The model is always legal. Code calls this function where a proof needs this fact, and knows the model only as contracts see the
-    /// model.
+    /// The model is always legal. Contracts don't say so, since they see a `Positions` as its model. A function calls this lemma if its
+    /// proof needs this fact.
     pub(crate) fn lemma_is_legal(&self)
         ensures { IsLegal self.now }
     {
@@ -109,7 +109,7 @@ impl<'m, 'a, L: LinkStore> Positions<'m, 'a, L> {
         self.known.contains_key(&object.0)
     }
 
-    /// Notes that an object is at a position of a reference.
+    /// Notes that `object` is at the position `index` of `end`, an end of a reference.
     fn note(&mut self, end: End, index: u32, object: ObjectNo) -> Result<(), AllocError>
         requires reference { (shape self.old.metamodel end.feature).is_reference ≡ true }
         requires there { slice_get ((reading self.old).values end) index ≡ Some (value.Object object) }
@@ -120,7 +120,7 @@ impl<'m, 'a, L: LinkStore> Positions<'m, 'a, L> {
         Ok(())
     }
 
-    /// Notes the object at a position of a reference, if an object is there.
+    /// Notes the object at a position of an end of a reference, if an object is there.
     fn note_at(&mut self, end: End, index: u32) -> Result<(), AllocError>
         requires reference { (shape self.old.metamodel end.feature).is_reference ≡ true }
         ensures { self.new ≡ self.old }

@@ -1,4 +1,4 @@
--- The most frequent kinds of lines: how they are read, and what each asks for. One space separates their words.
+-- The most frequent kinds of lines: how they are read, and what each asks for. One space separates the words of a line.
 use Rattle.std.specs.Prelude.{ℕ, ◌+◌, List, [], ◌∷◌, Option, Some, None, codes, drop, option_map, take, if◌then◌else◌}
 use Rattle.std.specs.List.{after_first, before_first}
 use Rattle.std.specs.Option.{option_zip}

@@ -36,7 +36,7 @@ pub enum Frequent<'a> {
 }
 
 /// Reads an object from the bytes before the first space of a text. Returns the object, and the text after that space. If the text has no
-/// space, the object is read from the whole text, and the text after it is empty. `None` if these bytes name no object.
+/// space, the object is read from the whole text, and the returned text is empty. `None` if the bytes name no object.
 #[inline(always)]
 fn object_before_space(text: &str) -> Option<(ObjectNo, &str)>
     ensures object { option_map (λ p. p.0) result ≡ object_in (before_first is_space text.now) }
@@ -112,8 +112,8 @@ fn move_of(args: &str) -> Option<FrequentAct<'_>>
     Some(FrequentAct::Bare(BareAct::Move { to, from }))
 }
 
-/// The act that a verb of three letters and the text after the name of a feature ask for. `None` for `new`, which names no feature, and if
-/// the text does not fit the verb.
+/// What a line about a feature asks for, by its verb of three letters. `args` is the text after the name of the feature. `None` for `new`,
+/// which names no feature, and if `args` does not fit the verb.
 #[inline(always)]
 fn short_act_of(verb: ShortVerb, args: &str) -> Option<FrequentAct<'_>>
     ensures { result ≡ act_in (short_verb verb) args.now }
@@ -126,8 +126,8 @@ fn short_act_of(verb: ShortVerb, args: &str) -> Option<FrequentAct<'_>>
     }
 }
 
-/// The act that a verb of more than three letters and the text after the name of a feature ask for; `None` if the text does not fit the
-/// verb.
+/// What a line about a feature asks for, by its verb of more than three letters. `args` is the text after the name of the feature. `None`
+/// if `args` does not fit the verb.
 #[inline(always)]
 fn long_act_of(verb: LongVerb, args: &str) -> Option<FrequentAct<'_>>
     ensures { result ≡ act_in (long_verb verb) args.now }
@@ -204,7 +204,7 @@ fn other_line_of(line: &str) -> Option<Frequent<'_>>
     None
 }
 
-/// A line of one of the most frequent forms, whose words have one space between them. `None` for a line of any other form, and for a line
+/// Reads a line of one of the most frequent forms, with one space between its words. `None` for a line of any other form, and for a line
 /// with further spaces before, between or after its words; but a line of `get`, `isset` or `unset` may have one space at its end. Takes no
 /// memory.
 pub fn frequent_of(line: &str) -> Option<Frequent<'_>>

@@ -12,7 +12,7 @@ pub(crate) enum ShortVerb {
     Add,
 }
 
-/// A verb of more than three letters. The lines that begin with it are about a feature.
+/// A verb of more than three letters whose lines are about a feature. So `container` and `fragment` are not among these verbs.
 #[derive(Clone, Copy, Drop)]
 pub(crate) enum LongVerb {
     IsSet,

@@ -532,7 +532,7 @@ chain-read s c one legal none unloaded early late =
 ---------------------------------------------------------------- feature changes that are made
 
 -- the notifications that are made are the chain
-pub made-chain : (s : Model) (c : Change) (cut : List LinkEnd) (ts : List FeatureChange) → resolves_all c ≡ false → IsLegal s → destroyed_by c ≡ None → loaded_by c ≡ None → early_refusal (reading s) c ≡ None → late_refusal (reading s) c ≡ None → cut ≡ cut_link_ends (reading s) c → ts ≡ feature_changes_with (reading s) c cut
-    → map (notice_at (reading s)) ts ≡ chain (reading s) c
-made-chain s c cut ts one legal none unloaded early late is_cut made =
-    ap (map (notice_at (reading s))) (made ∙ ap (feature_changes_with (reading s) c) is_cut) ∙ sym (chain-read s c one legal none unloaded early late)
+pub made-chain : (s : Model) (c : Change) (cut : List LinkEnd) → resolves_all c ≡ false → IsLegal s → destroyed_by c ≡ None → loaded_by c ≡ None → early_refusal (reading s) c ≡ None → late_refusal (reading s) c ≡ None → cut ≡ cut_link_ends (reading s) c
+    → map (notice_at (reading s)) (feature_changes_with (reading s) c cut) ≡ chain (reading s) c
+made-chain s c cut one legal none unloaded early late is_cut =
+    ap (λ (ts : List LinkEnd). map (notice_at (reading s)) (feature_changes_with (reading s) c ts)) is_cut ∙ sym (chain-read s c one legal none unloaded early late)

@@ -1,7 +1,7 @@
 -- Feature changes that are collected, one after another.
 use Rattle.std.proofs.Common.{◌≡◌, ◌<◌, ◌≤◌, ◌+◌, ◌-◌, subst, ℕ, zero, suc, length, drop, take, slice_get, slice_index_or, Option, Some, None, option_map, option_to_list, if◌then◌else◌, arith, Bool, true, false, cond, List, [], ◌∷◌, ◌++◌, filter, map, refl, append_assoc, ap, sym, ◌∙◌}
 use Rattle.std.proofs.lemmas.Bool.{or_parts}
-use Rattle.std.proofs.lemmas.List.{append-nil, drop_all, drop_more}
+use Rattle.std.proofs.lemmas.List.{append-nil, drop_all, drop_more, map-append}
 use Rattle.std.proofs.lemmas.Option.{none-some, same_Some, slice_get-get_or}
 use Rattle.mm_types.specs.Ends.{first_in, has_value, index_in}
 use Rattle.mm_types.specs.Same.{same_value}
@@ -16,12 +16,13 @@ use Rattle.handshake.specs.declared.change_kind.ChangeKind.TheVariants.{LosesAt}
 use Rattle.handshake.specs.declared.change_kind.FeatureChange.{FeatureChange}
 use Rattle.removal.specs.declared.link_end.LinkEnd.{LinkEnd}
 
-filter-two : {X : Type 0} (p : X → Bool) (x y : X) → filter p (x ∷ []) ++ filter p (y ∷ []) ≡ filter p (x ∷ y ∷ [])
+pub filter-two : {X : Type 0} (p : X → Bool) (x y : X) → filter p (x ∷ []) ++ filter p (y ∷ []) ≡ filter p (x ∷ y ∷ [])
 filter-two p x y = elim (p x) as (λ b. cond b (x ∷ []) [] ++ filter p (y ∷ []) ≡ cond b (x ∷ filter p (y ∷ [])) (filter p (y ∷ []))) [ true ↦ refl | false ↦ refl ]
 
--- elements that are added in two steps are added in one
-pub both-added : {X : Type 0} (p : X → Bool) (xs : List X) (x y : X) → (xs ++ filter p (x ∷ [])) ++ filter p (y ∷ []) ≡ xs ++ filter p (x ∷ y ∷ [])
-both-added p xs x y = append_assoc xs (filter p (x ∷ [])) (filter p (y ∷ [])) ∙ ap (λ ys. xs ++ ys) (filter-two p x y)
+-- what is made of two lists, in two steps, is made of both lists together
+pub both-added : {X Y : Type 0} (f : X → Y) (xs ys : List X) (old mid new : List Y) → mid ≡ old ++ map f xs → new ≡ mid ++ map f ys → new ≡ old ++ map f (xs ++ ys)
+both-added f xs ys old mid new one two =
+    two ∙ ap (λ zs. zs ++ map f ys) one ∙ append_assoc old (map f xs) (map f ys) ∙ ap (λ zs. old ++ zs) (sym (map-append f xs ys))
 
 -- the elements that were made and the elements that are left, after one more step
 pub made-step : {X Y : Type 0} (f : X → Y) (old rest : List X) (x : X) (out new all : List Y) → old ≡ x ∷ rest → new ≡ out ++ f x ∷ [] → out ++ map f old ≡ all → new ++ map f rest ≡ all
@@ -102,16 +103,16 @@ backwards-before e vs (suc k) out new all some low made whole =
     (backwards-step e vs k out new all (omega (arith, low)) (subst (λ (i : ℕ). new ≡ out ++ option_to_list (option_map (link_end e) (slice_get vs i))) less made) whole)
 
 -- one more loss of a list
-pub lost-before : (e : End) (k : ℕ) (out new all : List FeatureChange) → 0 < k → new ≡ out ++ feature_change e (LosesAt (k - 1)) ∷ [] → out ++ all_lost e k ≡ all → new ++ all_lost e (k - 1) ≡ all
-lost-before e zero out new all some made whole = absurd (omega (arith, some))
-lost-before e (suc k) out new all some made whole =
+pub lost-before : {Y : Type 0} (f : FeatureChange → Y) (e : End) (k : ℕ) (out new all : List Y) → 0 < k → new ≡ out ++ f (feature_change e (LosesAt (k - 1))) ∷ [] → out ++ map f (all_lost e k) ≡ all → new ++ map f (all_lost e (k - 1)) ≡ all
+lost-before f e zero out new all some made whole = absurd (omega (arith, some))
+lost-before f e (suc k) out new all some made whole =
     let less = one-less k in
-    subst (λ (i : ℕ). new ++ all_lost e i ≡ all) (sym less)
-    (ap (λ (ts : List FeatureChange). ts ++ all_lost e k) (subst (λ (i : ℕ). new ≡ out ++ feature_change e (LosesAt i) ∷ []) less made) ∙ append_assoc out (feature_change e (LosesAt k) ∷ []) (all_lost e k) ∙ whole)
+    subst (λ (i : ℕ). new ++ map f (all_lost e i) ≡ all) (sym less)
+    (ap (λ ns. ns ++ map f (all_lost e k)) (subst (λ (i : ℕ). new ≡ out ++ f (feature_change e (LosesAt i)) ∷ []) less made) ∙ append_assoc out (f (feature_change e (LosesAt k)) ∷ []) (map f (all_lost e k)) ∙ whole)
 
-pub lost-end : (e : End) (k : ℕ) (out all : List FeatureChange) → k ≤ 0 → out ++ all_lost e k ≡ all → out ≡ all
-lost-end e zero out all none whole = sym (append-nil out) ∙ whole
-lost-end e (suc k) out all none whole = absurd (omega (arith, none))
+pub lost-end : {Y : Type 0} (f : FeatureChange → Y) (e : End) (k : ℕ) (out all : List Y) → k ≤ 0 → out ++ map f (all_lost e k) ≡ all → out ≡ all
+lost-end f e zero out all none whole = sym (append-nil out) ∙ whole
+lost-end f e (suc k) out all none whole = absurd (omega (arith, none))
 
 pub backwards-end : (e : End) (vs : List Value) (k : ℕ) (out all : List LinkEnd) → k ≤ 0 → out ++ link_ends_backwards e (take k vs) ≡ all → out ≡ all
 backwards-end e vs zero out all none whole = sym (append-nil out) ∙ whole

@@ -1,4 +1,5 @@
--- The edits of links that make a change that doesn't resolve all proxies: they fit, are of the metamodel's names_of, make no cycle, and make what the change makes of links.
+-- The edits of links that make a change other than a resolve of all proxies: they fit the links, are of the kinds of the metamodel, make no
+-- cycle, and make what the change makes of the links.
 use Rattle.std.proofs.Common.{◌≡◌, ℕ, ◌≤◌, nat_lt, unwrap_or, option_to_list, Bool, true, false, List, [], ◌∷◌, ◌++◌, length, map, Option, Some, None, if◌then◌else◌, refl, sym, ap, ◌∙◌, subst, arith, slice_get, ◌-◌}
 use Rattle.std.proofs.lemmas.Bool.{true≢false, ltb-true}
 use Rattle.std.proofs.lemmas.Bool.Decides.{nat_tests}

@@ -35,7 +35,8 @@ pub record IsRemovalOf (r : Reading) (c : Change) (q : Option Removal) : Type 0 
   pub whose : option_map (λ (x : Removal). x.object) q ≡ destroyed_by c
   pub found : IfSome q (IsRemoval r)
 
--- whether a change makes an object, or is an act at an end that resolves no proxy; if so, the change edits either only values or only links
+-- whether a change makes an object, or is an act at an end and the act is no `Resolve`; if so, the change edits either only values or only
+-- links
 abbrev pub edits_one_kind : Change → Bool
 edits_one_kind (Create c) = true
 edits_one_kind (At e a) = not (resolves_one (At e a))

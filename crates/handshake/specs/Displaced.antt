@@ -45,7 +45,7 @@ abbrev pub link_ends_backwards : End → List Value → List LinkEnd
 link_ends_backwards e [] = []
 link_ends_backwards e (v ∷ vs) = link_ends_backwards e vs ++ link_end e v ∷ []
 
--- the link of the value at a position of an end
+-- the link of the value at a position of an end; none if no value is there
 abbrev pub link_end_in : Reading → End → ℕ → List LinkEnd
 link_end_in r e i = option_to_list (option_map (link_end e) (slice_get (r.values e) i))
 
@@ -76,14 +76,14 @@ in_the_way r e o =
 abbrev pub is_taken : Reading → End → Bool
 is_taken r e = (shape_at r e).is_single && nat_lt 0 (length (r.values e))
 
--- whether a new link from e to an object displaces a link
+-- whether a new link from the end e to the object o displaces a link
 abbrev pub displaces : Reading → End → ObjectNo → Bool
 displaces r e o =
     is_taken r e
     || (option_map_or (is_taken r) (opposite_end r e o) false
     || option_map_or (λ n. is_some (r.holder n)) (node_contained e o (shape_at r e).containing) false)
 
--- the links that a new link from e to an object displaces
+-- the links that a new link from the end e to the object o displaces
 abbrev pub displaced_link_ends : Reading → End → ObjectNo → List LinkEnd
 displaced_link_ends r e o = each_link_once r (in_the_way r e o)
 
@@ -93,7 +93,7 @@ displaced_link_ends r e o = each_link_once r (in_the_way r e o)
 abbrev pub has_already : Reading → End → Value → Bool
 has_already r e v = same_value v (value_at r e)
 
--- whether a set makes and cuts no link: the feature is an attribute, or the end has the value already
+-- whether a set neither makes nor cuts a link: the feature is an attribute, or the end has the value already
 abbrev pub is_plain_set : Reading → End → Value → Bool
 is_plain_set r e v = not (shape_at r e).is_reference || has_already r e v
 
@@ -110,7 +110,7 @@ cut_by_new r e v = []
 abbrev pub counter_link_end : Reading → ResolvedProxy → List LinkEnd
 counter_link_end r x = option_map_or (λ c. link_end_in r c.end c.index) x.counterpart []
 
--- the links of a proxy at an index and of its counterpart
+-- the links of the proxy at the index i of the end e, and of its counterpart
 abbrev pub link_ends_joined : Reading → End → ℕ → ResolvedProxy → List LinkEnd
 link_ends_joined r e i x = link_end_in r e i ++ counter_link_end r x
 

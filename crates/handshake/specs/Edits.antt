@@ -28,8 +28,8 @@ abbrev pub new_put : Reading → End → ℕ → Value → Option Edit
 new_put r e i (value.Object o) = Some (put_of e i o (shape_at r e).opposite (shape_at r e).containing)
 new_put r e i v = None
 
--- the edit after the cuts of a set, an addition or a move, if there is one: it makes a link, or moves a value in a list. If the end is
--- single, the cuts have already taken its old value out
+-- the edit that a set, an addition or a move makes after its cuts: a set and an addition make a link, and a move moves a value in a list.
+-- None if no link is made or moved. If the end is single, the cuts have already taken its old value out
 abbrev pub made_edit : Reading → Change → Option Edit
 made_edit r (At e (Set v)) = if is_plain_set r e v then None else new_put r e 0 v
 made_edit r (At e (Add v i)) = if is_plain_add r e v then None else new_put r e (position_for r e i) v

@@ -47,7 +47,7 @@ notice_of a e (Resolves i v) h = notice a e h kind.Resolve (value_in h.values i)
 abbrev pub notice_at : Reading → FeatureChange → Notice
 notice_at r t = notice_of (shape_at r t.at) t.at t.does (held_at r t.at)
 
--- the features that have a set flag
+-- whether a feature has a set flag
 abbrev pub has_flag : Metamodel → FeatureNo → Bool
 has_flag m f = (shape m f).is_unsettable
 

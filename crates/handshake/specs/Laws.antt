@@ -1,4 +1,4 @@
--- Laws on every change of a legal model that is not refused.
+-- Laws on changes. All of them but `KeepsSteady` require that the model is legal and that the change is not refused (`OfAllowed`).
 use Rattle.std.specs.Prelude.{◌≡◌, ◌&&◌, ◌||◌, ℕ, Bool, false, not, nat_le, IsFalse, List, [], ◌∷◌, ◌++◌, filter, None, is_some}
 use Rattle.std.specs.List.{AllByRecursion}
 use Rattle.std.specs.Option.{option_map_or}
@@ -32,7 +32,7 @@ use Rattle.handshake.specs.FeatureChanges.{chain, destroyed_by, far_losses, feat
 abbrev pub OfAllowed : (Model → Change → Type 0) → Model → Change → Type 0
 OfAllowed Holds s c = IsLegal s → early_refusal (reading s) c ≡ None → late_refusal (reading s) c ≡ None → Holds s c
 
--- if a change makes a resource, its URI is a result of joining
+-- if a change makes a resource, the URI of the resource is a result of joining
 abbrev pub IsBrought : Change → Type 0
 IsBrought (NewResource u) = IsJoined u
 IsBrought _ = Unit {0}

@@ -78,6 +78,6 @@ pub record IsLoaded (r : Reading) (k : ResourceNo) (doc : Doc) (t : Reading) : T
   pub roots : HasRootsOf r k doc t
   pub others : IsElseAsBefore r k doc t
 
--- after the load of a document that was read, the model is as the document says
+-- if a document was read, and its load into a legal model is not refused, the model after the load is as the document says
 abbrev pub LoadsEnds : Model → ResourceNo → Doc → Type 0
 LoadsEnds s k doc = OfAllowed (λ s c. HasReadDocument s.metamodel c → IsLoaded (reading s) k doc (reading (model_after s c))) s (Load k doc)

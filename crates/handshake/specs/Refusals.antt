@@ -76,7 +76,8 @@ gain_refusal r e v =
     Bound where_so is_full_at r e else_by
     Limit where_so is_at_limit r e
 
--- why an end can't be set to a value; a set to the object that the end has already is never refused here
+-- why an end can't be set to a value: why it can't gain a link to the value, if the value is an object that the end does not have already.
+-- Any other set is not refused here
 abbrev pub set_refusal : Reading → End → Value → Option Refused
 set_refusal r e (value.Object o) = if has_already r e (value.Object o) then None else link_refusal r e o
 set_refusal r e v = None
@@ -105,7 +106,8 @@ single_refusal m f = NotSingle unless (shape m f).is_single
 abbrev pub many_refusal : Metamodel → FeatureNo → Option Refused
 many_refusal m f = NotMany where_so (shape m f).is_single
 
--- why an act doesn't fit a feature: a set needs a single feature, and an edit of a list a many-valued one
+-- why an act doesn't fit a feature: a set needs a single feature, and an edit of a list needs a many-valued feature. An unset and a resolve
+-- fit every feature
 abbrev pub kind_refusal : Metamodel → FeatureNo → Act → Option Refused
 kind_refusal m f (Set v) = single_refusal m f
 kind_refusal m f Unset = None

@@ -18,35 +18,8 @@ use notice_chain::{Chain, NO_INDEX, Notice, NoticeKind};
 use removal::{Loss, Removal, losses};
 use std::alloc::{AllocError, Global};
 
-/// Adds to a chain the notifications of feature changes. All are computed in the same model, the model before the change.
-pub fn notices<L: LinkStore>(
-    alloc: Global,
-    model: &ModelRef<L>,
-    feature_changes: Vec<FeatureChange>,
-    chain: &mut Chain,
-) -> Result<(), AllocError>
-    ensures { OnOk result (chain.new ≡ chain.old ++ map (notice_at (reading model.now)) feature_changes.items) }
-{
-    for feature_change in feature_changes {
-        push_notice(alloc, model, feature_change, chain)?;
-    }
-    Ok(())
-}
-
-/// Adds the notification of a feature change.
-fn push_notice<L: LinkStore>(
-    alloc: Global,
-    model: &ModelRef<L>,
-    feature_change: FeatureChange,
-    chain: &mut Chain,
-) -> Result<(), AllocError>
-    ensures { OnOk result (chain.new ≡ chain.old ++ notice_at (reading model.now) feature_change ∷ []) }
-{
-    chain.push(notice(alloc, model, feature_change)?)?;
-    Ok(())
-}
-
-/// Adds to a chain the notifications of the values that ends of other nodes lose when an object and all objects below it are destroyed.
+/// Adds to `chain` a notification for each value that an end of a remaining node loses by a deletion. `removal` has the object that is
+/// deleted with all objects below it. If memory is refused, `chain` may have some of the notifications.
 pub fn lost_notices<L: LinkStore>(
     alloc: Global,
     model: &ModelRef<L>,

@@ -28,8 +28,8 @@ pub enum Change {
 impl Change {
     ghost use Rattle.handshake.specs.Changes.{edits_links_alone, edits_one_kind, edits_values_alone, is_at_reference};
 
-    /// Whether the change makes an object, or does an act at an end that resolves no proxy. If so, the change edits either only values or
-    /// only links.
+    /// Whether the change makes an object, or is an act at an end and the act is no `Resolve`. If so, the change edits either only values
+    /// or only links.
     fn edits_one_kind(&self) -> bool
         ensures { result ≡ edits_one_kind self.now }
     {

@@ -76,7 +76,7 @@ pub(crate) fn yields<L: LinkStore>(
     Ok(link_ends)
 }
 
-/// If an end is single and has a value, adds the link of this value, unless the list has that link already.
+/// If an end is single and has a value, adds the link of this value, unless `link_ends` has that link already.
 #[inline(always)]
 fn add_held<L: LinkStore>(
     alloc: Global,
@@ -100,7 +100,7 @@ fn add_held<L: LinkStore>(
     }
 }
 
-/// If a node is contained, adds the link that contains it, unless the list has that link already.
+/// If a node is contained, adds the link that contains the node, unless `link_ends` has that link already.
 #[inline(always)]
 fn add_holding<L: LinkStore>(
     model: &ModelRef<L>,
@@ -238,7 +238,8 @@ pub fn add_counterpart<L: LinkStore>(
     }
 }
 
-/// The links that are cut with the object that a change destroys; none if the change destroys no object.
+/// The links that a change cuts because it destroys the object of `removal` and all objects below it. No links if `removal` is `None`: then
+/// the change destroys no object.
 fn gone_link_ends<L: LinkStore>(
     alloc: Global,
     model: &ModelRef<L>,
@@ -321,7 +322,8 @@ fn link_ends_backwards<L: LinkStore>(
     Ok(link_ends)
 }
 
-/// The link of the value at an index of an end, if an index is given and a value is there; none for an attribute.
+/// The link of the value at `index` of an end. The result is empty if the end has no value there, if `index` is `None`, or if the feature
+/// of the end is an attribute.
 fn link_end_in<L: LinkStore>(
     alloc: Global,
     model: &ModelRef<L>,

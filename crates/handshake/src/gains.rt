@@ -59,7 +59,8 @@ fn is_either_full<L: LinkStore>(model: &ModelRef<L>, end: End, far: Option<End>)
     }
 }
 
-/// Whether an end, or the opposite end `far`, if there is one, has as many values as any list may have.
+/// Whether `end`, or its opposite end `far`, if there is one, has the greatest number of values that a list may have
+/// (`limits::LIST_VALUES`).
 fn is_either_at_limit<L: LinkStore>(model: &ModelRef<L>, end: End, far: Option<End>) -> bool
     ensures { result ≡ (refusals.is_at_limit (reading model.now) end || option_map_or (refusals.is_at_limit (reading model.now)) far false) }
 {
@@ -90,7 +91,7 @@ fn has_bound(meta: &Meta, feature: FeatureNo) -> bool
     }
 }
 
-/// Whether an end has as many values as any list may have.
+/// Whether an end has the greatest number of values that a list may have (`limits::LIST_VALUES`).
 fn is_at_limit<L: LinkStore>(model: &ModelRef<L>, end: End) -> bool
     ensures { result ≡ refusals.is_at_limit (reading model.now) end }
 {

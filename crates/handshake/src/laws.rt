@@ -34,8 +34,8 @@ pub fn the_notices_of_feature_changes_replay_them()
 {}
 
 /// If a change of a legal model is not refused, then replaying its chain on the values and the set flag of an end gives the values and the
-/// flag after the change. This holds for all ends but those of nodes that the change destroys, and of objects that a load makes. The
-/// document of a load must have been read.
+/// flag after the change. This holds for all ends except the ends of nodes that the change destroys, and the ends of objects that a load
+/// makes. The document of a load must have been read.
 pub fn the_chain_of_a_change_replays_it()
     ensures { (s : Model) (c : Change) → ChainReplays s c }
 {}

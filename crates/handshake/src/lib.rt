@@ -18,11 +18,11 @@ mod plain;
 mod recursion;
 
 pub use act::Act;
-pub use chain::{lost_notices, notice, notices};
+pub use chain::{lost_notices, notice};
 pub use change::Change;
 pub use change_kind::{ChangeKind, FeatureChange};
 pub use displaced::{add_counterpart, cut_link_ends, displaces, push_link_end};
-pub use feature_change::{feature_changes, push_resolved};
+pub use feature_change::{notices, push_resolved};
 pub use gains::{gain_refusal, link_refusal};
 pub use named::{early_refusal, list_early_refusal, set_early_refusal};
 pub use plain::{has_already, is_plain_add, is_plain_set, is_repeat};

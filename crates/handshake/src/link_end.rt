@@ -21,7 +21,7 @@ pub(crate) fn node_value(node: Node) -> Value
     }
 }
 
-/// The same link, named by its other end, if the link has another end.
+/// The link that `link_end` names, named by its other end; `None` if the link has no other end.
 pub(crate) fn turned<L: LinkStore>(model: &ModelRef<L>, link_end: &LinkEnd) -> Option<LinkEnd>
     ensures { result ≡ d.opposite_link_end (reading model.now) link_end.now }
 {

@@ -43,7 +43,7 @@ fn is_contained_by<L: LinkStore>(model: &ModelRef<L>, object: ObjectNo, end: End
     }
 }
 
-/// Whether a set to `value` makes and cuts no link: the feature is an attribute, or `value` is the end's value already.
+/// Whether a set to `value` neither makes nor cuts a link: the feature is an attribute, or `value` is the end's value already.
 pub fn is_plain_set<L: LinkStore>(model: &ModelRef<L>, end: End, value: &Value) -> bool
     ensures { result ≡ d.is_plain_set (reading model.now) end value.now }
 {

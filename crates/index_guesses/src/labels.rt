@@ -23,8 +23,9 @@ pub struct Labels {
     last: u64,
 }
 
-/// The indexes among which a label is searched, from `low` up to but not including `high`. `below` and `above` are the labels at the
-/// borders of these indexes, and `steps` is how many steps the search has taken.
+/// The indexes among which a label is searched, from `low` up to but not including `high`. `below` is the label at `low - 1`, or `first` of
+/// the list's `Labels` if `low` is 0. `above` is the label at `high`, or `last` of the list's `Labels` if `high` is the length of the list.
+/// `steps` is how many steps the search has taken.
 #[derive(Clone, Copy)]
 struct Span {
     low: usize,
@@ -45,7 +46,7 @@ pub fn label_between(below: u64, above: u64) -> u64 {
 }
 
 impl Labels {
-    /// The labels of a list of `len` values whose labels are new.
+    /// The first and the last label of a list of `len` values whose labels are new. If `len` is 0, both are estimates.
     pub fn of(len: usize) -> Self {
         Labels {
             first: MIDDLE,
@@ -90,20 +91,20 @@ impl Labels {
     }
 
     /// A guess at the index of a label, by its distance from `first`. The guess is right if `first` is no estimate, and the labels from the
-    /// first one up to this one are `GAP` apart.
+    /// first one up to `label` are `GAP` apart.
     pub fn from_front(self, label: u64) -> usize {
         (label.saturating_sub(self.first) / GAP) as usize
     }
 
     /// A guess at the index of a label among `len` labels, by its distance from `last`. The guess is right if `last` is no estimate, and
-    /// the labels from this one up to the last one are `GAP` apart.
+    /// the labels from `label` up to the last one are `GAP` apart.
     pub fn from_end(self, label: u64, len: usize) -> usize {
         let after = (self.last.saturating_sub(label) / GAP) as usize;
         len.saturating_sub(after).saturating_sub(1)
     }
 
-    /// The index of a label among the `len` labels that `label_at` gives, if the label is one of them and they go up along the list.
-    /// Otherwise the result may be any index, or `len`.
+    /// Searches for `label` among the `len` labels that `label_at` gives. If these labels go up along the list, and `label` is one of them,
+    /// the result is its index. Otherwise the result may be any index, or `len`.
     pub fn search<F: Fn(usize) -> u64>(self, len: usize, label: u64, label_at: F) -> usize
         requires { F.IsAlwaysCallable label_at }
     {
@@ -147,7 +148,7 @@ impl Span {
         self.low + (before as usize).min(places - 1)
     }
 
-    /// The indexes that are left after a look at the label at `middle`.
+    /// The indexes that are left after a search for `label` found the different label `found` at `middle`.
     fn rest(self, middle: usize, found: u64, label: u64) -> Self
         requires low { self.low ≤ middle }
         requires high { middle < self.high }

@@ -13,8 +13,8 @@ pub use ranks::by_rank;
 /// there.
 const TRIED: usize = 64;
 
-/// Whether a removal at an index tests the guess for the value there. One index in `TRIED` is tested. The first of them is `TRIED - 1`,
-/// since a value near the front is found soon without a guess.
+/// Whether a removal at `index` tests the guess for the value there. Of `TRIED` consecutive indexes one is tested. The first index that is
+/// tested is `TRIED - 1`, since a value near the front is found soon without a guess.
 pub fn is_tried(index: usize) -> bool {
     index % TRIED == TRIED - 1
 }

@@ -1,8 +1,8 @@
-//! The index of a value in a list that is in the order of its values' ranks.
+//! Guesses at the index of a value in a list that is in the order of its values' ranks.
 
-/// A guess at the index of a rank among the `len` ranks that `rank_at` gives. The guess is right if the rank is the first or the last one.
-/// It is also right if each index has a rank, the ranks rise or fall along the list, and the rank is one of them. Otherwise the guess may
-/// be any index.
+/// A guess at the index of `rank` among the `len` ranks that `rank_at` gives. The guess is right if `rank` is the first or the last rank.
+/// It is also right if each index has a rank, the ranks rise or fall along the list, and `rank` is one of these ranks. Otherwise the guess
+/// may be any index.
 pub fn by_rank<F: Fn(usize) -> Option<u64>>(len: usize, rank: u64, rank_at: F) -> usize
     requires { F.IsAlwaysCallable rank_at }
 {

@@ -29,13 +29,13 @@ Follows step old new = (c : List ℕ) → new c → (d : List ℕ) × old d × s
 abbrev pub IsDurable : List ℕ → (List ℕ → Type 0) → Type 0
 IsDurable bytes may_leave = (c : List ℕ) → may_leave c → c ≡ bytes
 
--- each file that a crash may leave now is a file that a crash could leave before
+-- `old` and `new`: the files that a crash may leave before and after a step. Each file of `new` is a file of `old`
 abbrev pub LeavesNoOther : (List ℕ → Type 0) → (List ℕ → Type 0) → Type 0
 LeavesNoOther old new = (c : List ℕ) → new c → old c
 
--- The clock of a disk moved on from the moment `before` to the moment `now`. For a moment t up to `before`, `past t` is true of the files
--- that a crash from t to `before` may have left, and `since t` of the files that a crash from t to `now` may have left. Each file of
--- `since t` is a file of `past t`, or a crash may leave it now. Each file of `past t` is a file of `since t`.
+-- The clock of a disk was at the moment `before` and is at the moment `now`, which may be the same. For a moment t up to `before`, `past t`
+-- is true of the files that a crash from t to `before` may have left, and `since t` of the files that a crash from t to `now` may have
+-- left. Each file of `since t` is a file of `past t`, or a crash may leave it now. Each file of `past t` is a file of `since t`.
 pub record Elapses (before now : ℕ) (past since : ℕ → List ℕ → Type 0) (may_leave : List ℕ → Type 0) : Type 0 where
   pub later : before ≤ now
   pub no_other : (t : ℕ) (c : List ℕ) → t ≤ before → since t c → past t c ⊎ may_leave c

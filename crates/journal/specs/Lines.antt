@@ -35,7 +35,8 @@ abbrev pub entries : List (List ℕ) → List ℕ
 entries [] = []
 entries (l ∷ ls) = MARK ∷ l ++ NEWLINE ∷ entries ls
 
--- the entries of some lines, followed by a newline: the newline makes an empty line, and an empty line has no mark
+-- the entries of some lines, followed by a newline. The newline makes an empty line. An empty line has no mark, so neither it nor a line
+-- after it is recovered
 abbrev pub at_rest : List (List ℕ) → List ℕ
 at_rest ls = entries ls ++ NEWLINE ∷ []
 
@@ -60,7 +61,8 @@ pub record IsEntry (bytes line rest : List ℕ) : Type 0 where
   pub lines_are : recovered_lines bytes ≡ line ∷ recovered_lines rest
   pub shorter : length rest < length bytes
 
--- the result of a cut is the line of the first entry and the rest, or none if the bytes stand for no line
+-- the result of cutting the first entry off some bytes: the line of this entry, and the bytes after the entry; none if the bytes stand for
+-- no line
 abbrev pub CutsEntry : Option (Bor (List ℕ) × Bor (List ℕ)) → List ℕ → Type 0
 CutsEntry None bytes = recovered_lines bytes ≡ []
 CutsEntry (Some p) bytes = IsEntry bytes p.0.now p.1.now

@@ -77,7 +77,7 @@ pub trait Disk {
         ensures time { Elapses (moment self.old) (moment self.new) (left_since self.old) (left_since self.new) (may_leave self.new) }
         ensures cause { HasCause (faults self.old) (faults self.new) result };
 
-    /// A file that a crash may leave now counts as a file that a crash may have left since any moment up to now.
+    /// If a crash now may leave a file of the bytes `c`, then `left_since` is true of `c` for each moment up to now.
     ghost counts_now: { (file : Self) (t : ℕ) (c : List ℕ) → t ≤ moment file → may_leave file c → left_since file t c };
 
     /// A crash may have left a file since the current moment only if a crash may leave this file now.

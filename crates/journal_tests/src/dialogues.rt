@@ -82,7 +82,8 @@ struct Left {
     calls_left: u64,
 }
 
-/// Runs a dialogue over a new file on a disk that stops after `calls` calls. Each read gives at most `size` bytes of the input.
+/// Runs a dialogue over a new file on a disk that stops after `calls` calls. Each read gives at most `size` bytes of the input. Fails if
+/// `calls` is below `NEW`, since then no journal is opened.
 fn run(alloc: Global, size: usize, calls: u64, seed: u64) -> Result<Left, Fail> {
     let disk = TornDisk::new(alloc, b"", calls, seed)?;
     let Ok(journal) = open(alloc, disk, b"") else {

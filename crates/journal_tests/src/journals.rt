@@ -105,8 +105,9 @@ fn a_journal_that_no_call_stops_is_a_script(rt: HostRuntime) -> Result<(), Fail>
     Ok(())
 }
 
-/// Opens the file `left` on disks that stop at each call of the recovery and after its last call. Checks that the file that a second crash
-/// leaves has the same lines.
+/// Opens the file `left` on five disks, which stop after 0 to 4 calls. The recovery of a file that needs a repair makes four calls, so each
+/// of these calls fails on one disk, and on the fifth disk no call fails. The recovery of any other file makes no call. Checks that each
+/// file that a second crash leaves has the lines `lines`.
 fn check_recovery(
     rt: &impl Abort,
     alloc: Global,

@@ -12,7 +12,8 @@ infixl 10 ◌>>=◌
 abbrev pub ◌>>=◌ : {A B : Type 0} → Option A → (A → Option B) → Option B
 o >>= f = option_and_then f o
 
--- A function that reads JSON returns the value in `reading`, `Layout` if `reading` is none, or `Memory` in either case.
+-- What a function that reads JSON returns: the value in `reading`, or `Layout` if `reading` is none. It may return `Memory` instead,
+-- whatever `reading` is.
 abbrev pub Gives : {X : Type 0} → Result X ReadFault → Option X → Type 0
 Gives (Ok x) reading = reading ≡ Some x
 Gives (Err Layout) reading = reading ≡ None
@@ -100,7 +101,8 @@ optional_field key reading absent = record { keys = key ∷ []; reading = option
 abbrev pub makes : {X : Type 0} → X → Fields X
 makes x = record { keys = []; reading = λ d. Some x }
 
--- one more field: the function that `fields` reads from an object is applied to the value that `field` reads from the same object
+-- adds a field: `fields` reads a function from an object, `field` reads a value from the same object, and the function is applied to the
+-- value
 infixl 10 ◌also◌
 abbrev pub ◌also◌ : {A B : Type 0} → Fields (A → B) → Fields A → Fields B
 fields also field = record {
@@ -134,6 +136,6 @@ has_only names d = object_has_only names (as_object d)
 abbrev pub object_of : {X : Type 0} → Fields X → Data → Option X
 object_of fields d = if has_only fields.keys d then fields.reading d else None
 
--- a member whose key is not among the names is the same in both objects
+-- a member whose key is not among `names` is the same in the objects `old` and `new`
 abbrev pub KeepsOthers : List (List ℕ) → Members → Members → Type 0
 KeepsOthers names old new = (k : List ℕ) → list_any (λ n. bytes_eq n k) names ≡ false → get_member k new ≡ get_member k old

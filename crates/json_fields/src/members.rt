@@ -81,7 +81,7 @@ pub fn find<'v>(members: &'v Map<String, Value>, key: &str) -> Option<&'v Value>
     members.get(key)
 }
 
-/// Whether the value of a key is the text `wanted`. Takes no memory.
+/// Whether the value of a key is the text `wanted`; false if the key is absent. Takes no memory.
 pub fn is_word(members: &Map<String, Value>, key: &str, wanted: &str) -> bool
     ensures { result ≡ is_some (required_at key.now (word wanted.now) (object (members_view members.now.entries))) }
 {

@@ -30,7 +30,7 @@ CanChange (Raise i) k = k + 1 < 2 ^ 32
 CanChange (Lower i) k = ⊤
 CanChange (Shift to from) k = k + 1 < 2 ^ 32
 
--- if the link has a position in the end e, the renumbering r can change that position
+-- if the link is in the end e, its position there is so small that the position after the renumbering r fits 32 bits (`CanChange`)
 abbrev pub CanMove : Renumbering → End → Link → Type 0
 CanMove r e l = MatchOption (indexed_value l e) ⊤ (λ p. CanChange r p.0)
 
@@ -51,8 +51,8 @@ is_index k p = option_map_or (λ q. q.0 == k) p false
 abbrev pub object_on : Option (ℕ × Value) → Option ObjectNo
 object_on p = option_and_then (λ (q : ℕ × Value). object_of q.1) p
 
--- the object that the first link with position k in the end e has in e; none if no link has position k in e, or if the first such link has
--- no object there
+-- the object at position k of the end e: the value that the first link with this position in e has there. None if no link has this
+-- position, or if the value is no object
 abbrev pub first_object : List Link → End → ℕ → Option ObjectNo
 first_object [] e k = None
 first_object (l ∷ ls) e k = if is_index k (indexed_value l e) then object_on (indexed_value l e) else first_object ls e k
@@ -61,8 +61,8 @@ first_object (l ∷ ls) e k = if is_index k (indexed_value l e) then object_on (
 abbrev pub text_on : Option (ℕ × Value) → Option (List ℕ)
 text_on p = option_and_then (λ (q : ℕ × Value). text_of q.1) p
 
--- the text of the proxy that the first link with position k in the end e has in e; none if no link has position k in e, or if the first
--- such link has no proxy there
+-- the text of the proxy at position k of the end e: of the value that the first link with this position in e has there. None if no link has
+-- this position, or if the value is no proxy
 abbrev pub first_text : List Link → End → ℕ → Option (List ℕ)
 first_text [] e k = None
 first_text (l ∷ ls) e k = if is_index k (indexed_value l e) then text_on (indexed_value l e) else first_text ls e k
@@ -95,6 +95,7 @@ abbrev pub ends_with : List Link → Node → List End
 ends_with [] n = []
 ends_with (l ∷ ls) n = ends_to l n ++ ends_with ls n
 
--- the ends of the list es in which some link has the value v; each is given with the position in it of the first link that has v there
+-- the ends of the list es in which a link of ls has the value v, each with the position of v there. If several links have the value v in an
+-- end, the first of them in ls gives the position
 abbrev pub places_in : List Link → List End → Value → List Incoming
 places_in ls es v = entries_by (λ e. position_in ls e v) es

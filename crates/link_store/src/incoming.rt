@@ -21,7 +21,8 @@ fn push_place(position: Option<u32>, end: End, out: &mut Vec<Incoming>) -> Resul
     Ok(())
 }
 
-/// The ends of `ends` in which some link has `value`. Each is given with the position in it of the first link that has `value` there.
+/// The ends of `ends` in which some link has `value`. Each of these ends comes with a position: the first link that has `value` in the end
+/// has this position there.
 pub(crate) fn places_of(
     alloc: Global,
     rows: &[Link],

@@ -124,7 +124,7 @@ fn new_row(rows: &[Link], link: NewLink) -> Link
     }
 }
 
-/// Puts a link in. There is capacity for one more row.
+/// Puts a link in. `rows` must have capacity for one more row.
 pub(crate) fn put_row(rows: &mut Vec<Link>, link: NewLink)
     requires placed { IsPlaced (set.from_list rows.old.items) }
     requires room { vec_len rows.old < vec_capacity rows.old }
@@ -137,7 +137,7 @@ pub(crate) fn put_row(rows: &mut Vec<Link>, link: NewLink)
     rows.push_reserved(put);
 }
 
-/// Puts a proxy at a position of an end.
+/// Puts a proxy at a position of an end. `rows` must have capacity for one more row.
 fn put_proxy_row(rows: &mut Vec<Link>, end: End, index: u32, text: Text)
     requires placed { IsPlaced (set.from_list rows.old.items) }
     requires room { vec_len rows.old < vec_capacity rows.old }
@@ -165,7 +165,7 @@ fn shift_rows(rows: &mut Vec<Link>, end: End, to: u32, from: u32)
     renumber(rows, end, Renumbering::Shift(to, from));
 }
 
-/// Makes one edit. There is capacity for one more row.
+/// Makes one edit. `rows` must have capacity for one more row.
 pub(crate) fn edit_rows(rows: &mut Vec<Link>, edit: Edit)
     requires placed { IsPlaced (set.from_list rows.old.items) }
     requires room { vec_len rows.old < vec_capacity rows.old }

@@ -19,7 +19,8 @@ is_far_node (At d j) n = same_node d.node n
 is_far_node (Alone o) n = same_node (node.Object o) n
 is_far_node (Proxy t) n = false
 
--- the end at the far side of a link, if its feature is the containing feature h and the near node is n; else none
+-- the far end d of a link, if d contains the node n: the feature of d is the containing feature h, and n is the node `near` at the near
+-- side. Otherwise none
 abbrev pub far_holding : Far → FeatureNo → Node → Node → Option End
 far_holding (At d j) h near n = if same_feature d.feature h && same_node near n then Some d else None
 far_holding (Alone o) h near n = None

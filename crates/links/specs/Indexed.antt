@@ -33,13 +33,13 @@ is_value_at v p = option_map_or (λ q. same_value q.1 v) p false
 abbrev pub has_value : End → Value → Link → Bool
 has_value e v l = is_value_at v (indexed_value l e)
 
--- the far side of a link after the function r changed its position in the end e; a far side that is not in e is unchanged
+-- the far side of a link with its position in the end e changed by the function r; the same far side if it is not in e
 abbrev pub far_moved : Far → End → (ℕ → ℕ) → Far
 far_moved (At d j) e r = if same_end d e then At d (r j) else At d j
 far_moved (Alone o) e r = Alone o
 far_moved (Proxy t) e r = Proxy t
 
--- the link after the function r changed its position in the end e; a link that is not in e is unchanged
+-- the link l with its position in the end e changed by the function r; the same link if l is not in e
 abbrev pub renumbered_link : Link → End → (ℕ → ℕ) → Link
 renumbered_link l e r = if same_end l.end e then record l { index = r l.index } else record l { far = far_moved l.far e r }
 

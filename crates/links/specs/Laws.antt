@@ -34,7 +34,7 @@ pub record PutMakes (s : Links) (e : End) (i : ℕ) (o : ObjectNo) (g c : Option
   pub others : (d : End) → (e ≡ d → ⊥) → (IsFar o g d → ⊥) → end (put s e i o g c) d ≡ end s d
   pub holders : (n : Node) → holder (put s e i o g c) n ≡ option_or (holding_end (new_link s e i o g c) n) (holder s n)
 
--- whether d is the far end of a put
+-- whether d is the far end, if the object o is put into an end whose feature has the opposite g; false if the feature has no opposite
 abbrev pub is_far : ObjectNo → Option FeatureNo → End → Bool
 is_far o None d = false
 is_far o (Some g) d = same_end (far_end o g) d
@@ -89,7 +89,7 @@ pub record ShiftMakes (s : Links) (e : End) (to from : ℕ) : Type 0 where
   pub others : (d : End) → (e ≡ d → ⊥) → end (shift s e to from) d ≡ end s d
   pub holders : (n : Node) → holder (shift s e to from) n ≡ holder s n
 
--- for features that are opposites: if end x has the node of y, end y has the node of x
+-- for features that are opposites: if the end x has the node of the end y as a value, y has the node of x as a value
 abbrev pub BothEndsAgree : Kinds → Links → Type 0
 BothEndsAgree m s = (x y : End) → m.opposite x.feature ≡ Some y.feature → Has s x (node_value y.node) → Has s y (node_value x.node)
 
@@ -127,7 +127,8 @@ pub record CutByNameMakes (m : Kinds) (s : Links) (e : End) (v : Value) : Type 0
   pub ends : (d : End) → end (cut_value s e v) d ≡ filter (λ w. not (names m e v d w)) (end s d)
   pub holders : (n : Node) → holder (cut_value s e v) n ≡ option_and_then (λ (d : End). if names m e v d (node_value n) then None else Some d) (holder s n)
 
--- after the links that the list ts names are cut, each end has lost the values of these links and gained none, and no node has a new holder
+-- after the links that the list ts names are cut, each end has lost the values of these links and gained none. A node has no holder if one
+-- of these links contained it; else its holder is as before
 pub record CutsByNameMake (m : Kinds) (s : Links) (ts : List (End × Value)) : Type 0 where
   pub ends : (d : End) → end (without_all s ts) d ≡ filter (λ w. not (is_named m ts d w)) (end s d)
   pub holders : (n : Node) → holder (without_all s ts) n ≡ kept_holder m ts n (holder s n)
@@ -179,6 +180,6 @@ edit_end (edit.PutProxy e i t) = e
 abbrev pub contains_by : Kinds → FeatureNo → Bool
 contains_by m f = is_some (m.container f)
 
--- whether some edit is at an end whose feature, or the opposite of that feature, is a containment
+-- whether some edit is at an end of a containment, or of the opposite of a containment
 abbrev pub touches_containment : Kinds → List Edit → Bool
 touches_containment m plan = list_any (λ x. contains_by m (edit_end x).feature) plan

@@ -110,7 +110,8 @@ cut_some s o = option_map_or (cut s) o s
 unfoldable pub cut_value : Links → End → Value → Links
 cut_value s e v = cut_some s (find (has_value e v) (set.items s))
 
--- the link between position i of the end x and position j of the end y; its near side is the end whose feature has the lower number
+-- the link between position i of the end x and position j of the end y; c is the containing feature. The near side of the link is the end
+-- whose feature has the lower number
 abbrev pub joined_link : End → ℕ → End → ℕ → Option FeatureNo → Link
 joined_link x i y j c =
     if nat_lt x.feature.0 y.feature.0

@@ -17,7 +17,7 @@ use Rattle.links.specs.Links.{Links, cut_value, end, far_end, new_link, put, put
 use Rattle.links.specs.Holders.{IsUnder, holder, holding_end, node_contained}
 use Rattle.links.specs.LegalSets.{IsObject, Kinds, most}
 
--- the edit that puts a link of an object into an end
+-- the edit that puts the object o at position i in the end e; g is the opposite of e's feature, and c is the containing feature
 abbrev pub put_of : End → ℕ → ObjectNo → Option FeatureNo → Option FeatureNo → Edit
 put_of e i o g c = edit.Put (record { end = e; index = i; object = o; opposite = g; container = c })
 
@@ -27,7 +27,7 @@ links_after_edit s (edit.Put l) = put s l.end l.index l.object l.opposite l.cont
 links_after_edit s (edit.Shift e to from) = shift s e to from
 links_after_edit s (edit.PutProxy e i t) = put_proxy s e i t
 
--- the edits, one after another
+-- the links after the edits, which are made one after another
 abbrev pub links_after_edits : Links → List Edit → Links
 links_after_edits = fold links_after_edit
 

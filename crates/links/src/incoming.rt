@@ -1,7 +1,7 @@
 //! The positions that an object has in ends.
 use mm_types::{FeatureNo, Node};
 
-/// A position of an object: the position that the object has in the end of `node` under `feature`.
+/// One position of an object: the object is at `position` in the end of `node` under `feature`.
 #[derive(Clone, Copy)]
 pub struct Incoming {
     pub feature: FeatureNo,

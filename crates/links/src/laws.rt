@@ -46,8 +46,8 @@ pub fn chains_of_holders_end()
     ensures { (s : Links) → IsLegalSet s → HasNoCycle s → IsForest s }
 {}
 
-/// In a legal set without a cycle, the nodes above a node are the node of its holder, and then the nodes above that node (EMF: eContainer,
-/// repeated). There are none if the node has no holder.
+/// In a legal set without a cycle, the first node above a node is its container: the node of the end that contains it (its holder). Then
+/// come the nodes above the container (EMF: eContainer, repeated). No node is above a node without a holder.
 pub fn what_is_above_follows_the_holders()
     ensures { (s : Links) → IsLegalSet s → HasNoCycle s → (n : Node) → above s n ≡ option_map_or (λ (e : End). e.node ∷ above s e.node) (holder s n) [] }
 {}
@@ -82,9 +82,9 @@ pub fn a_put_gives_each_end_and_holder()
     ensures { (s : Links) (e : End) (i : ℕ) (o : ObjectNo) (g c : Option FeatureNo) → IsLegalSet s → EditFits s (put_of e i o g c) → PutGives s e i o g c }
 {}
 
-/// A put that fits keeps a legal set legal. Take a put with the opposite and the containing feature that some kinds give for the feature of
-/// its end: if the set agrees with these kinds, it still agrees with them after the put. The put makes no cycle if the node that becomes
-/// the container is neither the contained node nor below the contained node.
+/// A put that fits keeps a legal set legal. Let the put have the opposite and the containing feature that the kinds `m` give for the
+/// feature of its end. Then a set that agrees with `m` before the put agrees with `m` after it. The put makes no cycle if the node that
+/// becomes the container is neither the contained node nor below the contained node.
 pub fn a_put_keeps_a_set_legal()
     ensures legal { (s : Links) (e : End) (i : ℕ) (o : ObjectNo) (g c : Option FeatureNo) → IsLegalSet s → EditFits s (put_of e i o g c) → IsLegalSet (put s e i o g c) }
     ensures kinds { (m : Kinds) → AreKinds m → (s : Links) (e : End) (i : ℕ) (o : ObjectNo) → AreOfKind m s → AreOfKind m (put s e i o (m.opposite e.feature) (m.container e.feature)) }
@@ -115,8 +115,8 @@ pub fn cuts_by_name_lose_what_they_name()
     ensures { (m : Kinds) → AreKinds m → (s : Links) (ts : List (End × Value)) → IsLegalSet s → AreOfKind m s → CutsByNameMake m s ts }
 {}
 
-/// After cuts, a legal set is still legal and agrees with the same kinds. If the set had no cycle, it has none, and no node is above a node
-/// that it was not above before the cuts.
+/// After cuts, a legal set is still legal and agrees with the same kinds. If the set had no cycle, it has none after the cuts, and no node
+/// gains a node above it.
 pub fn cuts_by_name_keep_a_set_legal()
     ensures legal { (s : Links) (ts : List (End × Value)) → IsLegalSet s → IsLegalSet (without_all s ts) }
     ensures kinds { (m : Kinds) (s : Links) (ts : List (End × Value)) → AreOfKind m s → AreOfKind m (without_all s ts) }
@@ -138,9 +138,9 @@ pub fn a_plan_of_cuts_fits()
     ensures no_cycle { (s : Links) (ts : List (End × Value)) → PlanMakesNoCycle s (cut_edits ts) }
 {}
 
-/// A plan with the edits of two plans has the effect of the two plans, one after the other. It fits if the first plan fits the set, and the
-/// second plan fits the set that the first plan leaves. It agrees with all kinds with which both plans agree, and makes no cycle if neither
-/// of the two plans makes one in its turn.
+/// A plan with the edits of two plans has the effect of the two plans, one after the other. The joined plan fits if the first plan fits the
+/// set, and the second plan fits the set that the first plan leaves. It agrees with all kinds with which both plans agree. It makes no
+/// cycle if the first plan makes none in the set, and the second plan makes none in the set that the first plan leaves.
 pub fn plans_follow_one_another()
     ensures makes { (s : Links) (xs ys : List Edit) → links_after_edits s (xs ++ ys) ≡ links_after_edits (links_after_edits s xs) ys }
     ensures fits { (s : Links) (xs ys : List Edit) → PlanFits s xs → PlanFits (links_after_edits s xs) ys → PlanFits s (xs ++ ys) }

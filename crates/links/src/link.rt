@@ -1,4 +1,4 @@
-//! Links, and proxies, which are links to objects that are not loaded.
+//! Links, and proxies: links that are not resolved.
 use mm_types::{End, FeatureNo, ObjectNo, Text};
 
 /// The far side of a link. The near side is the end `Link::end`.

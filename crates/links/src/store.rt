@@ -18,9 +18,9 @@ use std::alloc::{AllocError, Global};
 
 /// A set of links, however it is kept.
 ///
-/// A store may keep the opposite and the containing feature of each feature, as the puts give them. The store then agrees only with
-/// metamodels in which each of these features has this opposite and this containing feature (`Kinds`). An empty store agrees with the kinds
-/// of every metamodel. After `apply` a store agrees with all kinds with which it agreed before, and with which the plan agrees too.
+/// A put names the opposite and the containing feature of its feature, and a store may keep both. The store then agrees only with
+/// metamodels that give the feature the same opposite and the same containing feature (`Kinds`). An empty store agrees with the kinds of
+/// every metamodel. If a store and a plan agree with some kinds, the store agrees with these kinds after `apply` too.
 pub trait LinkStore: Drop {
     /// The links.
     ghost links: { Self → Links };

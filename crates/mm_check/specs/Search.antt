@@ -1,4 +1,4 @@
--- The first place at which a condition applies, if no condition before it applies anywhere.
+-- The first place at which a condition applies, if no condition with a lower number applies anywhere.
 use Rattle.std.specs.Prelude.{ℕ, ◌<◌, length, slice_get, Option, MatchOption}
 use Rattle.std.specs.Option.{option_map_or}
 use Rattle.mm_types.specs.Faults.{condition_number}
@@ -9,7 +9,7 @@ use Rattle.mm_types.specs.declared.meta_fault.Place.{Place}
 use Rattle.mm_types.specs.declared.meta_fault.Place.TheVariants as place
 use Rattle.mm_graph.specs.First.{HoldsOfNone}
 
--- no condition of a lower number applies anywhere
+-- no condition whose number is lower than n applies anywhere
 abbrev pub NoneBelow : RawMetamodel → ℕ → Type 0
 NoneBelow raw n = (l : Condition) (q : Place) → condition_number l < n → Applies raw l q → ⊥
 

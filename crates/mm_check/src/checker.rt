@@ -15,7 +15,7 @@ use std::marker::Model;
 pub struct Checker<'a> {
     /// Finds the enumerations, classes, literals and features of the document by their names.
     pub resolver: Resolver<'a>,
-    /// The direct supertypes of each class.
+    /// The direct supertypes of each class, as positions of classes. A supertype that is no class of the document is left out.
     pub graph: Vec<Seq<usize>>,
     /// The names of the features that each class declares.
     pub names: Vec<Seq<Text>>,
@@ -99,21 +99,21 @@ impl<'a> Checker<'a> {
         }
     }
 
-    /// The enumeration at a position.
+    /// The enumeration at a position; `None` if there is none.
     pub fn enum_at(&self, i: usize) -> Option<&Enumeration>
         ensures { option_copied result ≡ slice_get self.now.enums i }
     {
         self.resolver.enums().get(i)
     }
 
-    /// The class at a position.
+    /// The class at a position; `None` if there is none.
     pub fn class_at(&self, c: usize) -> Option<&RawClass>
         ensures { option_copied result ≡ slice_get self.now.classes c }
     {
         self.resolver.classes().get(c)
     }
 
-    /// The feature at an index among the features that a class declares.
+    /// The feature at the index `i` among the features that the class `c` declares; `None` if there is none.
     pub fn feature_at(&self, c: usize, i: usize) -> Option<&RawFeature>
         ensures { option_copied result ≡ feature_at self.now c i }
     {

@@ -27,15 +27,14 @@ const CONDITIONS: [Condition; 9] = [
 /// What the check of a document finds.
 #[derive(Drop)]
 enum Outcome {
-    /// The first condition, in the order of the numbers of conditions, that applies somewhere, and the first place at which this condition
-    /// applies.
+    /// Of the conditions that apply somewhere, the one with the lowest number, and the first place at which it applies.
     Fault(Condition, Place),
     /// The document is well-formed, and resolves to this resolution.
     Resolution(Resolution),
 }
 
-/// The first condition, in the order of the numbers of conditions, that applies somewhere, and the first place at which this condition
-/// applies; `None` if no condition applies anywhere. Fails only if memory is refused.
+/// Of the conditions that apply somewhere, the one with the lowest number, and the first place at which it applies; `None` if no condition
+/// applies anywhere. Fails only if memory is refused.
 fn first_fault(
     alloc: Global,
     checker: &Checker<'_>,
@@ -68,7 +67,7 @@ fn found_in(alloc: Global, raw: &RawMeta) -> Result<Outcome, AllocError>
     found_by(alloc, &checker)
 }
 
-/// Returns the metamodel that a document gives, if the document is well-formed. Otherwise fails with the first fault of the document, and
+/// Returns the metamodel that a document gives, if the document is well-formed. Otherwise fails with the first fault of the document. Fails
 /// with `Memory` if memory is refused.
 pub fn check(alloc: Global, raw: RawMeta) -> Result<Meta, MetaFault>
     ensures { Checks raw result }
@@ -86,7 +85,7 @@ pub fn check(alloc: Global, raw: RawMeta) -> Result<Meta, MetaFault>
 }
 
 /// Returns the metamodel of a document, if the document can be read and is well-formed. Otherwise fails with the first fault of the
-/// document, and with `Memory` if memory is refused.
+/// document. Fails with `Memory` if memory is refused.
 #[tactic(auto, using(crate::proofs::DocumentLemmas::gives_unread, crate::proofs::DocumentLemmas::gives_checked))]
 pub fn check_document(alloc: Global, document: &[u8]) -> Result<Meta, MetaFault>
     ensures { Gives document.now result }

@@ -18,7 +18,7 @@ fn is_reserved(name: &str) -> bool
         || (name == "EInt" || (name == "ELong" || (name == "EBoolean" || name == "Resource")))
 }
 
-/// Whether a text occurs twice.
+/// Whether some text occurs twice in `texts`.
 fn has_repeated_text(alloc: Global, texts: &[Text]) -> Result<bool, AllocError>
     ensures { IfOk result (λ b. b ≡ repeats [] texts.now) }
 {

@@ -1,4 +1,4 @@
-//! Conditions that a test of one enumeration, class or feature decides.
+//! Conditions on names, types, bounds and defaults; each is tested at one enumeration, class or feature.
 ghost use Rattle.std.specs.Prelude.{◌≡◌, ◌||◌, ◌&&◌, not, pos, int_lt, is_none, IfOk};
 ghost use Rattle.std.specs.List.{list_any};
 ghost use Rattle.std.specs.Ordering.{int_eq};
@@ -32,7 +32,8 @@ fn has_odd_bounds(f: &RawFeature) -> bool
 }
 
 impl<'a> Checker<'a> {
-    /// Whether a name at a place is not formed as names must be.
+    /// Whether a name at a place is not formed as names must be: the name of the enumeration, class or feature, or a literal of the
+    /// enumeration.
     pub fn has_bad_name(&self, place: Place) -> bool
         ensures { result ≡ has_bad_name_at self.now place }
     {

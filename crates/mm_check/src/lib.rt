@@ -1,4 +1,5 @@
-//! The check of a metamodel document: whether it is well-formed, or else its first fault and the place of the fault.
+//! Checks whether a metamodel document is well-formed. If it is, the result is its `Meta`; otherwise its first fault and the place of the
+//! fault.
 #![tactic(auto)]
 
 mod checker;

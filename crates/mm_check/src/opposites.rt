@@ -98,7 +98,8 @@ impl<'a> Checker<'a> {
         self.reference_named(d, name.as_str())
     }
 
-    /// The reference that a feature names as its opposite.
+    /// The reference that the feature at the index `i` of the class `c` names as its opposite: its class, and its index in this class.
+    /// `None` if there is no such feature or no such reference.
     fn opposite_at(&self, c: usize, i: usize) -> Option<(usize, usize)>
         ensures { result ≡ opposite_at self.now c i }
     {
@@ -162,7 +163,8 @@ impl<'a> Checker<'a> {
         }
     }
 
-    /// Whether a place is a reference whose opposite is a containment, and whose upper bound is not 1.
+    /// Whether a place is a container reference whose upper bound is not 1. A container reference is a reference whose opposite is a
+    /// containment.
     pub fn has_bad_container_bound(&self, place: Place) -> bool
         requires { NamesAreUnique self.now }
         ensures { IsTrue result ↔ HasBadContainerBound self.now place }

@@ -11,7 +11,7 @@ use mm_types::{Condition, Place};
 use std::alloc::{AllocError, Global};
 
 impl<'a> Checker<'a> {
-    /// Whether a condition applies at a place.
+    /// Whether a condition applies at a place. The condition must not be `Cycle`, and no condition with a lower number may apply anywhere.
     fn applies(&self, alloc: Global, condition: Condition, place: Place) -> Result<bool, AllocError>
         requires none_before { NoneBefore self.now condition }
         requires no_cycle { condition ≡ Cycle → ⊥ }
@@ -30,7 +30,7 @@ impl<'a> Checker<'a> {
         }
     }
 
-    /// The first enumeration to which a condition applies.
+    /// The first enumeration to which a condition applies; `None` if there is none.
     fn first_enum(&self, alloc: Global, condition: Condition) -> Result<Option<usize>, AllocError>
         requires none_before { NoneBefore self.now condition }
         requires no_cycle { condition ≡ Cycle → ⊥ }
@@ -44,7 +44,7 @@ impl<'a> Checker<'a> {
         Ok(None)
     }
 
-    /// Of the features that a class declares, the first one to which a condition applies.
+    /// Of the features that a class declares, the first one to which a condition applies; `None` if there is none.
     fn first_feature(
         &self,
         alloc: Global,
@@ -85,7 +85,7 @@ impl<'a> Checker<'a> {
         Ok(None)
     }
 
-    /// The first class that is its own supertype.
+    /// The first class that is its own supertype, directly or through other classes; `None` if there is none.
     fn first_cycle(&self, alloc: Global) -> Result<Option<Place>, AllocError>
         ensures { IfOk result (IsFirstPlace self.now Cycle) }
     {

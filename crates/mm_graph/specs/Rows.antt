@@ -4,7 +4,7 @@ use Rattle.std.specs.List.{flat_map}
 use Rattle.mm_types.specs.Graph.{by_class}
 use Rattle.mm_types.specs.Features.{all_features, first_occurrences, with_new}
 
--- the features seen so far, and after them the new features from the lists of some classes, one list after another
+-- the features `seen`, and after them the further features of some classes, class by class; `rows` has the list of features of each class
 abbrev pub with_rows : List (List ℕ) → List ℕ → List ℕ → List ℕ
 with_rows rows seen [] = seen
 with_rows rows seen (e ∷ es) = with_rows rows (with_new seen (by_class rows e)) es

@@ -14,8 +14,8 @@ IsSetOf P s = (k : ℕ) → (is_in s k ≡ true) ↔ P k
 abbrev pub HasSupers : List (List ℕ) → List Bool → ℕ → Type 0
 HasSupers g s k = All (λ (e : ℕ). is_in s e ≡ true) (by_class g k)
 
--- classes were added to a set: class c is in the new set; c conforms to each added class; the direct supertypes of each added class are in
--- the new set
+-- classes were added to a set, and none was taken out: class c is in the new set; c conforms to each added class; the direct supertypes of
+-- each added class are in the new set
 pub record IsAdded (g : List (List ℕ)) (c : ℕ) (old new : List Bool) : Type 0 where
   pub long : length new ≡ length old
   pub here : is_in new c ≡ true

@@ -19,7 +19,7 @@ is_unseen Done = false
 abbrev pub mark : List Mark → ℕ → Mark
 mark ms c = slice_index_or ms c Unseen
 
--- the classes that are done are in the order, after their direct supertypes
+-- the order has exactly the classes that are done, each once and after its direct supertypes
 pub record IsBegun (g : List (List ℕ)) (ms : List Mark) (order : List ℕ) : Type 0 where
   pub long : length ms ≡ length g
   pub within : All (λ (c : ℕ). c < length g) order
@@ -31,7 +31,7 @@ pub record IsBegun (g : List (List ℕ)) (ms : List Mark) (order : List ℕ) : T
 abbrev pub OpenReach : List (List ℕ) → List Mark → ℕ → Type 0
 OpenReach g ms c = (k : ℕ) → mark ms k ≡ Open → Reaches g k c
 
--- the same classes are open as before, and each class that was done is still done
+-- the same classes are open as before, each class that was done is still done, and no more classes are unseen than before
 pub record Goes (old new : List Mark) : Type 0 where
   pub same_length : length new ≡ length old
   pub opened : (k : ℕ) → mark new k ≡ Open → mark old k ≡ Open
@@ -44,7 +44,7 @@ pub record IsVisited (g : List (List ℕ)) (c : ℕ) (old new : List Mark) (orde
   pub done : mark new c ≡ Done
   pub goes : Goes old new
 
--- c was visited, or there is a cycle
+-- the result of a visit of c: true only if c was visited, and false only if there is a cycle
 abbrev pub Visits : Bool → List (List ℕ) → ℕ → List Mark → List Mark → List ℕ → Type 0
 Visits true g c old new order = IsVisited g c old new order
 Visits false g c old new order = HasCycle g

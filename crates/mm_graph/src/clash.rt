@@ -45,8 +45,8 @@ fn gather<'a>(
     Ok(found)
 }
 
-/// Whether two different features of a class, own or inherited, share a name. `names` has the names
-/// of the features that each class declares. Fails only if memory is refused.
+/// Whether two different features of a class, own or inherited, share a name. `names` has the names of the features that each class
+/// declares. Fails only if memory is refused.
 ///
 /// The graph of supertypes may have cycles. The check takes one look-up for each feature.
 pub fn clashes(

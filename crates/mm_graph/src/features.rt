@@ -10,7 +10,7 @@ use indexmap::IndexSet;
 use mm_types::Seq;
 use std::alloc::{AllocError, Global};
 
-/// Adds to the found features each feature of a list that is not among them yet, at the end.
+/// Adds each feature of `features` that `found` does not have yet, at the end of `found`.
 fn add_new(found: &mut IndexSet<u32>, features: &[u32]) -> Result<(), AllocError>
     ensures { OnOk result (found.new.keys ≡ with_new found.old.keys features.now) }
 {
@@ -21,7 +21,9 @@ fn add_new(found: &mut IndexSet<u32>, features: &[u32]) -> Result<(), AllocError
     Ok(())
 }
 
-/// The features in the lists of the supertypes, in order, and then the own features; each feature once.
+/// All features of a class, each once: the features of its direct supertypes, one supertype after another, and then the features that the
+/// class declares. `supers` are the direct supertypes, `rows` has all features of each of these supertypes at the supertype's number, and
+/// `own` are the declared features.
 fn merged(
     alloc: Global,
     supers: &[usize],

@@ -10,9 +10,9 @@ use std::alloc::{AllocError, AllocFailed, Global};
 #[derive(Clone, Copy, Debug, PartialEq, Eq)]
 enum Mark {
     Unseen,
-    /// Its supertypes are being visited.
+    /// The supertypes of the class are being visited.
     Open,
-    /// It is in the order, and so is each class that it reaches.
+    /// The class is in the order, and so is each class that it reaches.
     Done,
 }
 
@@ -46,8 +46,8 @@ fn visit(
     Ok(true)
 }
 
-/// The classes in an order in which each comes after its supertypes, or `None` if some class is
-/// reached from itself. Fails only if memory is refused.
+/// The classes in an order in which each comes after its supertypes, or `None` if some class is reached from itself. Fails only if memory
+/// is refused.
 ///
 /// Takes time linear in the number of classes and of the supertypes that they name.
 pub fn order_of(alloc: Global, graph: &[Seq<usize>]) -> Result<Option<Vec<usize>>, AllocError>

@@ -38,8 +38,8 @@ pub fn conforming(alloc: Global, graph: &[Seq<usize>], c: usize) -> Result<Seq<b
     Ok(Seq::from_vec(seen))
 }
 
-/// Which classes a class reaches: its direct supertypes, theirs, and so on; itself only if it is on
-/// a cycle. Fails only if memory is refused.
+/// Which classes the class `c` reaches: its direct supertypes, their direct supertypes, and so on; `c` itself only if it is on a cycle.
+/// Fails only if memory is refused.
 pub fn reached_from(alloc: Global, graph: &[Seq<usize>], c: usize) -> Result<Seq<bool>, AllocError>
     requires graph { InRange graph.now }
     requires class { c < length graph.now }
@@ -65,8 +65,7 @@ pub fn conform_table(alloc: Global, graph: &[Seq<usize>]) -> Result<Seq<Seq<bool
     Ok(table)
 }
 
-/// The first class that is reached from itself, or `None` if there is no cycle. Fails only if memory
-/// is refused.
+/// The first class that is reached from itself, or `None` if there is no cycle. Fails only if memory is refused.
 pub fn first_on_cycle(alloc: Global, graph: &[Seq<usize>]) -> Result<Option<usize>, AllocError>
     requires { InRange graph.now }
     ensures { IfOk result (λ found. IsFirst (λ c. Reaches graph.now c c) (length graph.now) found) }

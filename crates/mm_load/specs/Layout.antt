@@ -32,7 +32,7 @@ feature_fields = makes new_head
 abbrev pub new_attribute : Unit {0} → Bool → Bool → Option (List ℕ) → RawKind
 new_attribute kind unique unsettable default = Attribute unique unsettable default
 
--- the other keys of an attribute
+-- the fields of an attribute that are not among `feature_fields`
 abbrev pub attribute_fields : Fields RawKind
 attribute_fields = makes new_attribute
     -- its kind, which is `attribute`
@@ -47,7 +47,7 @@ attribute_fields = makes new_attribute
 abbrev pub new_reference : Unit {0} → Bool → Option (List ℕ) → RawKind
 new_reference kind containment opposite = Reference containment opposite
 
--- the other keys of a reference
+-- the fields of a reference that are not among `feature_fields`
 abbrev pub reference_fields : Fields RawKind
 reference_fields = makes new_reference
     -- its kind, which is `reference`

@@ -33,7 +33,7 @@ fn take_head(alloc: Global, members: &mut Map<String, Value>) -> Result<Head, Re
     })
 }
 
-/// Takes out and reads the further fields of an attribute.
+/// Reads the further fields of an attribute: checks that the kind is `attribute`, and takes out and reads the other fields.
 fn take_attribute(alloc: Global, members: &mut Map<String, Value>) -> Result<RawKind, ReadFault>
     ensures { Gives result (attribute_fields.reading (object (members_view members.old.entries))) }
 {
@@ -50,7 +50,7 @@ fn take_attribute(alloc: Global, members: &mut Map<String, Value>) -> Result<Raw
     })
 }
 
-/// Takes out and reads the further fields of a reference.
+/// Reads the further fields of a reference: checks that the kind is `reference`, and takes out and reads the other fields.
 fn take_reference(alloc: Global, members: &mut Map<String, Value>) -> Result<RawKind, ReadFault>
     ensures { Gives result (reference_fields.reading (object (members_view members.old.entries))) }
 {

@@ -9,7 +9,8 @@ use json_fields::{ReadFault, take};
 use serde_json::{Map, Value};
 use std::alloc::Global;
 
-/// Takes out the value of a key and reads it. Fails with `Layout` if the key is absent, or if the value does not have the layout of `T`.
+/// Takes out the value of a key and reads it. Fails with `Layout` if the key is absent, or if the value does not have the layout of `T`;
+/// with `Memory` if memory is refused.
 pub fn required<T: FromJson>(
     alloc: Global,
     members: &mut Map<String, Value>,
@@ -25,7 +26,7 @@ pub fn required<T: FromJson>(
 }
 
 /// Takes out the value of a key and reads it; returns `absent` if the key is absent. Fails with `Layout` if the value does not have the
-/// layout of `T`.
+/// layout of `T`, and with `Memory` if memory is refused.
 pub fn optional<T: FromJson + Drop>(
     alloc: Global,
     members: &mut Map<String, Value>,

@@ -14,9 +14,9 @@ use std::alloc::Global;
 /// - `Layout` if the value does not have the shape of a metamodel, or has a key that is not listed;
 /// - `Limit` if a count or a length is above its limit.
 ///
-/// Only if memory is refused, `Memory` may be returned in place of the metamodel or of any of these faults. Of equal keys of an object the
-/// last counts. The time is linear in the document, except that a look-up of a key in a large object takes the logarithm of the number of
-/// its keys. The texts are moved out of the parsed JSON, which is freed part by part as it is read.
+/// `Memory` may be returned in place of the metamodel or of any of these faults, but only if memory is refused. Of equal keys of an object
+/// the last counts. The time is linear in the document, except that a look-up of a key in a large object takes the logarithm of the number
+/// of its keys. The texts are moved out of the parsed JSON, which is freed part by part as it is read.
 pub fn load_meta(alloc: Global, bytes: &[u8]) -> Result<RawMeta, MetaFault>
     ensures { Loads result (metamodel_of_bytes bytes.now) }
 {

@@ -8,7 +8,7 @@ use Rattle.mm_types.specs.declared.numbers.FeatureNo.{FeatureNo}
 use Rattle.mm_meta.specs.NameTable.{IsTableOf}
 use Rattle.mm_meta.specs.declared.feature_names.FeatureNames.{FeatureNames}
 
--- g is the first position of a name from `from` on, or the end of the list if there is none
+-- g is the first position of `name` at or after `from`, or the length of `names` if there is none
 pub record IsNext (names : List (List ℕ)) (name : List ℕ) (from g : ℕ) : Type 0 where
   pub behind : from ≤ g
   pub within : g ≤ length names
@@ -31,7 +31,7 @@ pub record ComesTo (m : Metamodel) (c : ClassNo) (name : List ℕ) (at : ℕ) : 
 abbrev pub IsRow : Metamodel → List ℕ → List (Option FeatureNo) → Type 0
 IsRow m name by_class = (c : ℕ) (found : Option FeatureNo) → slice_get by_class c ≡ Some found → found ≡ feature_by_name m (class_no c) name
 
--- rows by feature number: the row of a feature f has, at each class's number, the feature of the class that has the name of f, or none if
--- the class has no feature with the name. A row may be empty or end before the last class, and there may be no rows for the last features
+-- rows by feature number. At the number of a class, the row of a feature f has the feature of this class that has the name of f; none if
+-- the class has no feature with this name. A row may be empty or end before the last class, and there may be no rows for the last features
 abbrev pub AreRows : Metamodel → List (List (Option FeatureNo)) → Type 0
 AreRows m rows = (f : ℕ) → f < length rows → IsRow m (feature_name m (feature_no f)) (slice_index_or rows f [])

@@ -29,8 +29,8 @@ pub record IsContainerOf (m : Metamodel) (f h : FeatureNo) : Type 0 where
   pub apart : (h.0 ≡ f.0) → ⊥
   pub contains : (shape m h).containing ≡ Some h
 
--- the containing feature of a feature's links, if there is one, is the feature itself or, for a container reference, its opposite; for
--- `contents` it is `contents`
+-- if the links of a feature f have a containing feature h, then h is f itself, or f is a container reference and h is the opposite of f. f
+-- may also be `contents`; then h is `contents`
 abbrev pub ContainingIsKnown : Metamodel → Type 0
 ContainingIsKnown m = (f h : FeatureNo) → f.0 ≤ length m.features → (shape m f).containing ≡ Some h → (h ≡ f) ⊎ IsContainerOf m f h
 

@@ -43,7 +43,8 @@ impl FeatureNames {
     }
 }
 
-/// For each feature the next feature of the same name. The features are visited from the last to the first.
+/// For each feature the number of the next feature with the same name; if there is none, the count of all features. The features are
+/// visited from the last to the first.
 fn next_of_name(
     alloc: Global,
     features: &[Feature],

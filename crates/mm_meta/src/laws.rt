@@ -28,7 +28,7 @@ pub fn containers()
 {}
 
 /// If a reference has an opposite, the type of the reference is the class that declares the opposite. So the reference takes exactly the
-/// objects whose classes have the opposite. If one object may refer to another by a reference, the other object may refer back by the
+/// objects whose classes have the opposite. If an object `p` may refer to an object `o` by the reference, `o` may refer back to `p` by the
 /// opposite.
 pub fn far_types()
     ensures takes { (m : Metamodel) → IsOfDocument m → TakesWhatHasTheOpposite m }

@@ -21,8 +21,8 @@ use std::marker::Model;
 /// the feature with that name.
 const FEW: usize = 8;
 
-/// A metamodel with its names resolved into numbers: always well-formed and within the limits. Classes
-/// are numbered in document order, features in class order.
+/// A metamodel with its names resolved into numbers: always well-formed and within the limits. Classes are numbered in document order,
+/// features in class order.
 ///
 /// No look-up takes memory. A look-up that returns an `Option` returns `None` if a number that it is given names nothing; the exception is
 /// `containing`.
@@ -135,8 +135,9 @@ impl Meta {
         }
     }
 
-    /// The feature of `class` that has the same name as the feature `first`, from the list that is kept for this name; `first` is the first
-    /// feature with the name. `Some(None)` if the class has no feature with the name, `None` if no list is kept.
+    /// The feature of `class` with a given name, from the list that is kept for this name. The name is given by `first`, the number of the
+    /// first feature that has it. `Some(None)` if the class has no feature with the name. `None` if no list is kept, or if `class` names no
+    /// class.
     fn kept(&self, class: ClassNo, first: usize) -> Option<Option<FeatureNo>>
         ensures { IfSome result (λ found. found ≡ m.feature_by_name self.now class (m.feature_name self.now (feature_no first))) }
     {
@@ -284,8 +285,8 @@ impl Meta {
         }
     }
 
-    /// Whether a feature is among all features of a class, own and inherited: whether the class conforms to the
-    /// feature's owner. Takes constant time.
+    /// Whether a feature is among all features of a class, own and inherited: whether the class conforms to the feature's owner. Takes
+    /// constant time.
     pub fn has_feature(&self, class: ClassNo, feature: FeatureNo) -> bool
         ensures { result ≡ m.has_feature self.now class feature }
     {
@@ -296,7 +297,7 @@ impl Meta {
         }
     }
 
-    /// The default of a feature (EStructuralFeature.getDefaultValue): null for a reference.
+    /// The default of a feature (EStructuralFeature.getDefaultValue): null for a reference; `None` for `contents()`.
     pub fn default(&self, feature: FeatureNo) -> Option<&Value>
         ensures { option_copied result ≡ m.default self.now feature }
     {

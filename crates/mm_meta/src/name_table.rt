@@ -140,7 +140,8 @@ impl NameTable {
     }
 }
 
-/// The hints of some names, two to four times as many as there are names. If names share a slot, the first of them has its hint there.
+/// The hints of some names, two to four times as many as there are names, or one if there are no names. If names share a slot, the first of
+/// them has its hint there.
 fn hints_for(alloc: Global, positions: &IndexMap<String, usize>) -> Result<Vec<u32>, AllocError> {
     let count = positions.len().min(u32::MAX as usize);
     let mut hints = vec![in alloc; u32::MAX; (2 * count).next_power_of_two()]?;

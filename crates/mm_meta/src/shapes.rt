@@ -1,4 +1,5 @@
-//! Look-ups of the shapes of features, also of `contents`, and of the names of classes, features and literals.
+//! Look-ups of the shapes of features, also of `contents`, and of the names of classes, features and literals. A number that no feature has
+//! gets the shape of `contents`.
 ghost use Rattle.std.specs.Prelude.{◌≡◌, option_copied, option_and_then};
 ghost use Rattle.mm_types.specs.Lookups as m;
 ghost use Rattle.mm_types.specs.Shapes.{is_full_list, shape};

@@ -76,7 +76,7 @@ abbrev pub kind_default : Kind → Value
 kind_default (Attribute t unique unsettable default) = default
 kind_default (Reference target containment opposite) = value.Null
 
--- the default of a feature: null for a reference
+-- the default of a feature: null for a reference. None if the metamodel has no feature with the number
 abbrev pub default : Metamodel → FeatureNo → Option Value
 default m f = option_map (λ g. kind_default g.kind) (feature m f)
 

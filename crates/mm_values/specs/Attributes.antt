@@ -44,11 +44,11 @@ pub record IsGapFor (l : List Entry) (f i : ℕ) : Type 0 where
   pub smaller_before : (j : ℕ) → j < i → feature_at l j < f
   pub greater_after : (j : ℕ) → i ≤ j → j < length l → f < feature_at l j
 
--- how many values the list at index i can take without memory
+-- how many more values the list of the entry at index i can take without memory
 abbrev pub spare_at : List Entry → ℕ → ℕ
 spare_at l i = let e = slice_index_or l i (place_for 0) in e.list.spare
 
--- the attribute has an entry, and the entry's list can take n values without memory
+-- the attribute f has an entry, and the entry's list can take n more values without memory
 pub record HasPlace (l : List Entry) (f n : ℕ) : Type 0 where
   pub index : ℕ
   pub is_at : IsAt l f index

@@ -48,7 +48,8 @@ places_taken _ = none_taken
 abbrev pub capacity_needed : List ValueEdit → ℕ → ℕ → ℕ
 capacity_needed plan o f = if list_any (is_insert_at o f) plan then sum_by (λ e. places_taken e o f) plan else 0
 
--- the list that an edit puts, or inserts a value into, has an entry and the capacity that the plan needs
+-- for an edit that puts a list, or inserts a value into a list: the list has the capacity that the plan needs in it, as `HasPlaceAt` says.
+-- Nothing is required of other edits
 abbrev pub HasPlaceFor : Slots → List ValueEdit → ValueEdit → Type 0
 HasPlaceFor r plan (PutList x g list flag) = HasPlaceAt r x.0 g.0 (capacity_needed plan x.0 g.0)
 HasPlaceFor r plan (InsertValue x g i w u) = HasPlaceAt r x.0 g.0 (capacity_needed plan x.0 g.0)

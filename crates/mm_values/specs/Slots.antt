@@ -40,13 +40,13 @@ pub record IsReady (r : Slots) : Type 0 where
 abbrev pub IsDead : Slots → ℕ → Type 0
 IsDead r o = (o < r.next) × (slice_index_or r.classes o None ≡ None)
 
--- the object's list under an attribute can take n values without memory; nothing is needed for a dead object, or for a number past the end
--- of the columns
+-- the list of the object o under the attribute f can take n values without memory; nothing is required if o is dead, or past the end of the
+-- columns
 abbrev pub HasPlaceAt : Slots → ℕ → ℕ → ℕ → Type 0
 HasPlaceAt r o f n = (d : List Entry) → o < length r.lists → IsDead r o ⊎ HasPlace (slice_index_or r.lists o d) f n
 
--- the object's list under an attribute has the capacity that an edit needs; nothing is needed for a dead object, or for a number past the
--- end of the columns
+-- the list of the object o under the attribute f has the capacity that the edit e needs; nothing is required if o is dead, or past the end
+-- of the columns
 abbrev pub IsReadyAt : Slots → ℕ → ℕ → ListEdit → Type 0
 IsReadyAt r o f e = (d : List Entry) → o < length r.lists → IsDead r o ⊎ IsReadyFor (slice_index_or r.lists o d) f e
 
@@ -58,7 +58,7 @@ none_taken o f = 0
 abbrev pub taken_at : ObjectNo → FeatureNo → ℕ → ℕ → ℕ → ℕ
 taken_at x g k o f = if nat_eq o x.0 then taken_of g.0 k f else 0
 
--- there are as many entries as before, and each list keeps its capacity, minus the capacity that is taken
+-- the columns are as long as before; the list of each object o under each attribute f keeps its capacity, minus `taken o f`
 pub record KeepsPlaces (taken : ℕ → ℕ → ℕ) (old new : Slots) : Type 0 where
   pub slots : length new.lists ≡ length old.lists
   pub places : (o f n : ℕ) → HasPlaceAt old o f n → HasPlaceAt new o f (n - taken o f)

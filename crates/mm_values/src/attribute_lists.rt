@@ -122,7 +122,8 @@ impl AttributeLists {
         }
     }
 
-    /// Reserves capacity for more values in the entry of an attribute, which is at the index `at`.
+    /// Reserves capacity for `additional` more values of the list in the entry of an attribute. The entry is at the index `at`. `is_asked`
+    /// says whether the list is looked up by value.
     fn reserve(
         &mut self,
         feature: FeatureNo,
@@ -179,8 +180,8 @@ impl AttributeLists {
         }
     }
 
-    /// Makes the entry of an attribute that has none, with its values and its flag. Fails only if memory is refused, and then nothing that
-    /// contracts see has changed.
+    /// Makes an entry with the values `list` and the set flag `flag` for an attribute that has no entry; `at` is the index at which the
+    /// entry is inserted. Fails only if memory is refused, and then nothing that contracts see has changed.
     fn put_new(
         &mut self,
         feature: FeatureNo,

@@ -43,8 +43,8 @@ fn is_inserted_at(plan: &[ValueEdit], object: ObjectNo, feature: FeatureNo) -> b
     plan.iter().any(|e| e.is_insert_at(object, feature))
 }
 
-/// How much capacity a plan needs in the list that an object has under an attribute; none, if the plan inserts no value into this list,
-/// since lists that are put bring their own memory. Fails if the count overflows.
+/// How much capacity a plan needs in the list that an object has under an attribute. The result is 0 if the plan inserts no value into this
+/// list, since a list that is put brings its own memory. Fails if the count overflows.
 pub(crate) fn places_needed(
     plan: &[ValueEdit],
     object: ObjectNo,

@@ -56,7 +56,7 @@ impl Objects {
         self.next
     }
 
-    /// The class and the attribute lists of a live object.
+    /// The class and the attribute lists of a live object; `None` if no live object has the number.
     fn live(&self, object: ObjectNo) -> Option<(ClassNo, &AttributeLists)>
         ensures { object_at (objects_of self.now) object ≡ option_map (λ p. record { class = p.0; stored = stored_in p.1.now }) result }
     {
@@ -68,7 +68,7 @@ impl Objects {
         Some((class, &self.lists[index]))
     }
 
-    /// The class of a live object.
+    /// The class of a live object; `None` if no live object has the number.
     pub fn class(&self, object: ObjectNo) -> Option<ClassNo>
         ensures { result ≡ option_map (λ s. s.class) (object_at (objects_of self.now) object) }
     {

@@ -81,7 +81,7 @@ impl Values {
         }
     }
 
-    /// The first index of a value among the values of an object under an attribute; `None` if the value is not there, and if no live object
+    /// The first index of a value among the values of an object under an attribute; `None` if the value is not there, or if no live object
     /// has the number.
     pub fn position(&self, object: ObjectNo, feature: FeatureNo, value: &Value) -> Option<usize>
         ensures { result ≡ option_and_then (position (same_value value.now)) (list_of (values_of self.now) object feature) }
@@ -200,9 +200,9 @@ impl Values {
         self.objects.create(class)
     }
 
-    /// Replaces the list of an object under an attribute, as `ValueEdit::PutList` does. Fails only if memory is refused, and then nothing
-    /// that contracts see has changed. Most changes of values are one `PutList` edit, and making a plan for it would take longer than the
-    /// edit itself.
+    /// Replaces the values and the set flag that an object has under an attribute, as `ValueEdit::PutList` does. Fails only if memory is
+    /// refused, and then nothing that contracts see has changed. Most changes of values are one `PutList` edit, and making a plan for it
+    /// would take longer than the edit itself.
     pub fn try_put(
         &mut self,
         object: ObjectNo,

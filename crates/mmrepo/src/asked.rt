@@ -114,7 +114,7 @@ fn copied(rt: &HostRuntime, options: &Options<'_>) -> Result<Asked, Stop> {
     })
 }
 
-/// The options of some words, copied out of the words.
+/// The options that the words of a command line give, copied out of the words.
 fn asked_of(rt: &HostRuntime, words: &[&str]) -> Result<Asked, Stop> {
     let options = match options_of(rt.alloc(), words) {
         Ok(options) => options,

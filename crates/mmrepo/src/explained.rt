@@ -1,5 +1,5 @@
 //! What the program adds to the report of why it stops. With `--explain` it adds an explanation of the fault. If standard error is a
-//! terminal, it adds a text about a file that can't be opened, read or written even without `--explain`.
+//! terminal, then even without `--explain` it adds a text about a file that can't be opened, read or written.
 use crate::asked::Asked;
 use crate::stop::{JournalRefusal, Stop};
 use durable::JournalFault;
@@ -8,11 +8,10 @@ use file_disk::OpenFault;
 use mm_types::MetaFault;
 use mm_types::limits::INPUT_BYTES;
 use script_streams::RunFault;
-use std::alloc::AllocError;
 use std::io;
 
 /// Why the program stops for a fault of a file. If `explain` is set, the result has a text with the path and the reason that the system
-/// gives.
+/// gives. If memory is refused for this text, the fault is `Memory`.
 fn failed(rt: &HostRuntime, explain: bool, path: &str, fault: RunFault, error: io::Error) -> Stop {
     if !explain {
         return Stop::Run(fault);
@@ -87,11 +86,27 @@ pub(crate) fn explained_fault(
     }
 }
 
-/// Why the program stops for a journal that is refused; with the explanation `text` if `explain` is set.
-fn refused(explain: bool, refusal: JournalRefusal, text: Result<String, AllocError>) -> Stop {
+/// Why the program stops for a journal that is refused. If `--explain` is given, the result has the explanation. If memory is refused for
+/// the explanation, the fault is `Memory`.
+fn refused(rt: &HostRuntime, asked: &Asked, path: &str, refusal: JournalRefusal) -> Stop {
+    if !asked.explain {
+        return Stop::Journal(refusal);
+    }
+    let text = match refusal {
+        JournalRefusal::InUse => { format!(in rt.alloc(); "{path}: another process has it open\n") }
+        JournalRefusal::NoJournal => format!(in rt.alloc();
+            "{path}: it is no journal, and is left as it is: name a new file\n"
+        ),
+        JournalRefusal::OtherMetamodel => format!(in rt.alloc();
+            "{path}: it was begun with another metamodel than {}: its first line has the SHA-256 of that file\n",
+            asked.meta
+        ),
+        JournalRefusal::Line(line) => format!(in rt.alloc();
+            "{path}: line {line} is not done when it is run again, so the program did not write it\n"
+        ),
+    };
     match text {
-        Ok(text) if explain => Stop::ExplainedJournal(refusal, text),
-        Ok(_) => Stop::Journal(refusal),
+        Ok(text) => Stop::ExplainedJournal(refusal, text),
         Err(_) => Stop::Run(RunFault::Memory),
     }
 }
@@ -104,10 +119,7 @@ pub(crate) fn explained_lock(
     fault: OpenFault,
 ) -> Stop {
     match fault {
-        OpenFault::InUse => {
-            let text = format!(in rt.alloc(); "{path}: another process has it open\n");
-            refused(asked.explain, JournalRefusal::InUse, text)
-        }
+        OpenFault::InUse => refused(rt, asked, path, JournalRefusal::InUse),
         OpenFault::Io(error) if error.kind() == io::ErrorKind::OutOfMemory => {
             Stop::Run(RunFault::Memory)
         }
@@ -122,34 +134,20 @@ pub(crate) fn explained_journal(
     path: &str,
     fault: JournalFault,
 ) -> Stop {
-    match fault {
-        JournalFault::Memory => Stop::Run(RunFault::Memory),
+    let refusal = match fault {
+        JournalFault::Memory => return Stop::Run(RunFault::Memory),
         JournalFault::Failed => {
-            explained_disk(rt, asked.names_files, path, Stop::Run(RunFault::Journal))
+            return explained_disk(rt, asked.names_files, path, Stop::Run(RunFault::Journal));
         }
-        JournalFault::NoJournal => {
-            let text = format!(in rt.alloc();
-                "{path}: it is no journal, and is left as it is: name a new file\n"
-            );
-            refused(asked.explain, JournalRefusal::NoJournal, text)
-        }
-        JournalFault::OtherMetamodel => {
-            let text = format!(in rt.alloc();
-                "{path}: it was begun with another metamodel than {}: its first line has the SHA-256 of that file\n",
-                asked.meta
-            );
-            refused(asked.explain, JournalRefusal::OtherMetamodel, text)
-        }
-        JournalFault::Line(line) => {
-            let text = format!(in rt.alloc();
-                "{path}: line {line} is not done when it is run again, so the program did not write it\n"
-            );
-            refused(asked.explain, JournalRefusal::Line(line), text)
-        }
-    }
+        JournalFault::NoJournal => JournalRefusal::NoJournal,
+        JournalFault::OtherMetamodel => JournalRefusal::OtherMetamodel,
+        JournalFault::Line(line) => JournalRefusal::Line(line),
+    };
+    refused(rt, asked, path, refusal)
 }
 
-/// Why a run that keeps its changes in a journal stops.
+/// Why a run that keeps its changes in a journal stops. If `explain` is set and `stop` is `Stop::Run` with the fault `Journal`, the result
+/// has a text with the path. If memory is refused for this text, the fault is `Memory`.
 pub(crate) fn explained_disk(rt: &HostRuntime, explain: bool, path: &str, stop: Stop) -> Stop {
     match stop {
         Stop::Run(RunFault::Journal) if explain => {

@@ -15,7 +15,8 @@ use std::fs::File;
 use std::io::Read;
 use std::{fs, io, str};
 
-/// An empty vector with capacity for one byte more than a file has now. Fails only if memory is refused.
+/// An empty vector with capacity for one byte more than a file has now. If the length of the file can't be found out, it counts as 0. Fails
+/// only if memory is refused.
 fn room_for(rt: &HostRuntime, file: &File) -> Result<Vec<u8>, AllocError> {
     let len = match file.metadata() {
         Ok(metadata) => usize::try_from(metadata.len()).unwrap_or(0),

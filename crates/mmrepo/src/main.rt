@@ -19,7 +19,8 @@ use crate::running::{run_asked, status_of};
 use crate::stop::{Stop, report};
 use std::process::ExitCode;
 
-/// Reads the metamodel, runs the script, and returns the exit status.
+/// Reads the metamodel, loads files, runs the script, saves files, and returns the exit status. A live run answers the lines of standard
+/// input in place of a script; if it has a journal, it runs the lines of the journal first.
 fn run(rt: &HostRuntime, asked: &Asked) -> Result<u8, Stop> {
     let mut document = read_meta(rt, asked)?;
     let is_faulty = run_asked(rt, asked, &mut document)?;

@@ -101,7 +101,7 @@ fn is_faulty(summary: Summary) -> bool {
     summary.refused > 0 || summary.bad > 0
 }
 
-/// Runs the script of a file, or the script on standard input.
+/// Runs the script of a file, or the script on standard input. If the run is live, answers the lines of standard input one by one.
 fn run_script<A: Adapter>(
     rt: &HostRuntime,
     asked: &Asked,
@@ -233,7 +233,7 @@ pub(crate) fn run_asked(
     run_with_boxes(rt, asked, document, Some(&watch))
 }
 
-/// The status of a run that came to its end.
+/// The status of a run that came to its end: `FAULTY` if `strict` is set and a line was refused or bad, and otherwise 0.
 pub(crate) fn status_of(is_faulty: bool, strict: bool) -> u8 {
     if strict && is_faulty { FAULTY } else { 0 }
 }

@@ -25,7 +25,8 @@ fn resource_for(watch: Watching<'_>, to: &ResourceFile) -> Result<ResourceNo, Re
     Err(Refused::NoResource)
 }
 
-/// Why the program stops, if the resource that is to be saved into a file is not found.
+/// Why the program stops if the look-up of a resource that is to be saved into a file was refused. `refused` is `NoResource` if no resource
+/// has the URI, `BadUri` if the URI is bad, and `Memory` if memory was refused.
 fn not_found<L: LinkStore, A: Adapter>(
     rt: &HostRuntime,
     asked: &Asked,
@@ -92,7 +93,7 @@ fn replace(rt: &HostRuntime, path: &str, document: &str) -> io::Result<()> {
     done
 }
 
-/// The documents that are to be saved in the files.
+/// The documents that are to be saved in the files, in the order of the options.
 fn documents_for<L: LinkStore, A: Adapter>(
     rt: &HostRuntime,
     asked: &Asked,
@@ -106,7 +107,8 @@ fn documents_for<L: LinkStore, A: Adapter>(
     Ok(documents)
 }
 
-/// Saves the resources that the options name. If the save of one of the resources is refused, no file is written.
+/// Saves the resources that the options name. If one of the resources is not found, or its save is refused, no file is written. Otherwise
+/// the files are written in the order of the options, up to the first file that can't be written.
 pub(crate) fn save_files<L: LinkStore, A: Adapter>(
     rt: &HostRuntime,
     asked: &Asked,

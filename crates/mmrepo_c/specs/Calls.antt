@@ -47,13 +47,14 @@ Answers None line status new = (status ≡ CLOSED) × (new ≡ None)
 Answers (Some h) line status new =
     ((INPUT_BYTES < length line) × (status ≡ TOO_LONG) × (new ≡ Some h)) ⊎ ((length line ≤ INPUT_BYTES) × AnswersLine h line status new)
 
--- a read was made: the text that the read printed is now the answer of the session; if memory was refused for the text, the handle is
--- closed
+-- a read was made, and `asked` gives what it prints in a session: this text is now the answer of the session; if memory was refused for the
+-- text, the handle is closed
 abbrev pub ReadsSession : Held → (Session → Printed) → ℕ → Option Held → Type 0
 ReadsSession h asked status None = status ≡ MEMORY
 ReadsSession h asked status (Some t) = (turn : Turn) × (status ≡ line_status turn) × Reads (running_session h) asked (printed_line (answer t) turn) (running_session t)
 
--- the status that reading a list in the session of a handle returns, and the handle after the call; `name` is the name of the feature
+-- the status that reading a list in the session of a handle returns, and the handle after the call; `name` is the name of the feature, and
+-- `asked` gives what the read prints in a session
 abbrev pub ReadsList : Option Held → List ℕ → (Session → Printed) → ℕ → Option Held → Type 0
 ReadsList None name asked status new = (status ≡ CLOSED) × (new ≡ None)
 ReadsList (Some h) name asked status new = (¬ IsUtf8 name × (status ≡ BAD) × (new ≡ Some h)) ⊎ (IsUtf8 name × ReadsSession h asked status new)

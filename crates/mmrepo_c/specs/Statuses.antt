@@ -1,4 +1,4 @@
--- The statuses of lines and of metamodels.
+-- The statuses that the calls from C return for a line, and for a metamodel that is refused.
 use Rattle.std.specs.Prelude.{ℕ, unwrap_or}
 use Rattle.mm_types.specs.Faults.{fault_number}
 use Rattle.mm_types.specs.declared.meta_fault.MetaFault.{MetaFault}

@@ -81,9 +81,9 @@ pub extern "C" fn mmrepo_line(alloc: Global, handle: &mut Handle, line: &[u8]) -
 /// is the name of the feature whose values are the list; a resource has only the list `contents`. From then on the text of the session is
 /// the count.
 ///
-/// Returns `OK`; or `REFUSED` if there is no such list, and then the text of the session is the refusal. Returns `CLOSED` if the handle is
-/// closed. Returns `BAD` if the name is not UTF-8: the session is as it was. Returns `MEMORY` if memory is refused for the text: the
-/// session is closed.
+/// Returns `OK` if the node has the list. Returns `REFUSED` if there is no node with this number, or if the node has no list with this
+/// name; then the text of the session is the refusal. Returns `CLOSED` if the handle is closed. Returns `BAD` if the name is not UTF-8: the
+/// session is as it was. Returns `MEMORY` if memory is refused for the text: the session is closed.
 #[unsafe(no_mangle)]
 pub extern "C" fn mmrepo_list_length(
     alloc: Global,
@@ -105,12 +105,12 @@ pub extern "C" fn mmrepo_list_length(
     put_back(handle, session, outcome)
 }
 
-/// Reads the value at an index of a list; the first index is 0. The arguments name the list as those of `mmrepo_list_length` do. From then
-/// on the text of the session is the value.
+/// Reads the value at an index of a list; the first index is 0. `is_resource`, `number` and `feature` name the list, as in
+/// `mmrepo_list_length`. From then on the text of the session is the value.
 ///
 /// Returns `OK`; or `REFUSED` if there is no such list, or if the index is past the last value. After `REFUSED` the text of the session is
-/// the refusal, which is `INDEX` for such an index. Returns `CLOSED` if the handle is closed. Returns `BAD` if the name is not UTF-8: the
-/// session is as it was. Returns `MEMORY` if memory is refused for the text: the session is closed.
+/// the refusal, which is `INDEX` if the index is past the last value. Returns `CLOSED` if the handle is closed. Returns `BAD` if the name
+/// is not UTF-8: the session is as it was. Returns `MEMORY` if memory is refused for the text: the session is closed.
 #[unsafe(no_mangle)]
 pub extern "C" fn mmrepo_list_value(
     alloc: Global,

@@ -92,7 +92,7 @@ abbrev pub DetachedKeepsEnough : State → List (Command View) → AdapterNo →
 DetachedKeepsEnough s cs number target a w n =
     OfWatched s cs number target a n (handed_out number (handed_out_by (step (run s cs).after (Detach number)).outcome) ≡ Some w → KeepsEnough s cs target n a.view w)
 
--- if an adapter keeps all notifications and the repository is closed after a run, the notifications that it has kept since the beginning of
--- the run are enough
+-- if an adapter keeps all notifications, and the repository is closed after a run, the notifications that the adapter has kept since the
+-- beginning of the run are enough
 abbrev pub ClosedKeepsEnough : State → List (Command View) → AdapterNo → Node → Listed → View → Node → Type 0
 ClosedKeepsEnough s cs number target a w n = OfWatched s cs number target a n (handed_out number (adapters_at_close (run s cs).after) ≡ Some w → KeepsEnough s cs target n a.view w)

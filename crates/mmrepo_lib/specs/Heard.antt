@@ -26,7 +26,7 @@ abbrev pub told_by_all : List Outcome → List (AdapterNo × Notice)
 told_by_all [] = []
 told_by_all (o ∷ os) = told_by o ++ told_by_all os
 
--- the numbers and views of the adapters that an outcome gives back
+-- the numbers and views of the attached adapters that an outcome gives back; none if the command was refused
 abbrev pub handed_out_by : Outcome → List (AdapterNo × View)
 handed_out_by (Ok r) = r.released
 handed_out_by (Err f) = []

@@ -59,7 +59,7 @@ AllDone os = AllByRecursion IsDone os
 
 ---------------------------------------------------------------- loads
 
--- the state of a new repository over the metamodel of s after a list of tasks
+-- the state after a list of tasks, which are done in a new repository over the metamodel of s
 abbrev pub reloaded_state : State → (ResourceNo → List ℕ) → List Task → State
 reloaded_state s texts ts = (run (empty_state s.model.metamodel) (commands (reads s) texts [] ts)).after
 
@@ -98,7 +98,8 @@ abbrev pub LeavesProxies : Outcome → ℕ → Type 0
 LeavesProxies (Ok r) n = CountsLeft r.answer n
 LeavesProxies (Err f) n = ⊥
 
--- the resolve of all proxies is not refused; no proxy is left, and the answer says so; the state after it is isomorphic to the saved one
+-- the resolve of all proxies is not refused; no proxy is left, and the answer says so; the state after the resolve is isomorphic to the
+-- saved state
 pub record IsAllResolved (r : Reading) (t : State) : Type 0 where
   pub done : LeavesProxies (step t command.ResolveAll).outcome 0
   pub none : HasNoProxy (reads (step t command.ResolveAll).after)
@@ -126,7 +127,7 @@ pub record IsHadAgain (s : State) (texts : ResourceNo → List ℕ) (ts : List T
   pub alike : Alike (reads s) (reads (run (reloaded_state s texts ts) rs).after)
 
 -- The commands of the tasks are not refused. The resolve of all proxies at once then gives a state that is isomorphic to the saved one.
--- There is a list of single resolves that leaves no proxy, and each list of single resolves that leaves no proxy gives a state that is
+-- There is a list of single resolves that leaves no proxy. If a list of single resolves leaves no proxy, it gives a state that is
 -- isomorphic to the saved one.
 pub record IsReloaded (s : State) (texts : ResourceNo → List ℕ) (ts : List Task) : Type 0 where
   pub loads : AllDone (run (empty_state s.model.metamodel) (commands (reads s) texts [] ts)).outcomes

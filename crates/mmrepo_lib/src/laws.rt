@@ -98,8 +98,9 @@ pub fn without_proxies_what_stands_between_is_alike()
 /// and that the text of no reference is longer than 65,535 bytes. In a new repository over the same metamodel the resources are created and
 /// loaded, in any order in which no resource is loaded before it is created. Then the proxies are resolved, all at once or one after
 /// another in any order until no proxy is left. These commands can be refused only for lack of memory. The new state is isomorphic to the
-/// saved state: both have the same URIs with the same roots, and the same addresses, and at each address an object of the same class with
-/// the same values and set flags. Values that are objects are compared by their addresses.
+/// saved state: the two states have the same URIs; two resources with the same URI have the same roots; and the two states have the same
+/// addresses. The two objects at an address have the same class, values and set flags. Values that are objects are compared by their
+/// addresses.
 pub fn what_was_saved_is_had_again_in_any_order()
     ensures { (s : State) → ReloadsInAnyOrder s }
 {}

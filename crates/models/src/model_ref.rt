@@ -52,8 +52,8 @@ impl<'a, L: LinkStore> ModelRef<'a, L> {
         }
     }
 
-    /// The model of every `ModelRef` is legal. Code calls this function so that a proof can use the fact, if it knows the model only as
-    /// contracts see it.
+    /// The model of every `ModelRef` is legal. Code calls this function if its proof needs this fact and knows the model only as contracts
+    /// see it.
     pub fn lemma_is_legal(&self)
         ensures { IsLegal self.now }
     {
@@ -168,7 +168,7 @@ impl<'a, L: LinkStore> ModelRef<'a, L> {
         }
     }
 
-    /// The values: the objects with their attribute lists, and the URIs of resources.
+    /// The values: the objects with their attribute lists and set flags, and the URIs of resources.
     pub(crate) fn values(&self) -> &'a Values
         ensures { values_of result.now ≡ self.now.values }
     {

@@ -25,7 +25,7 @@ use std::alloc::{AllocError, Global};
 /// A value at an end, borrowed from the model.
 #[derive(Clone, Copy, Debug)]
 pub enum Found<'a> {
-    /// The value of an attribute.
+    /// A value of an attribute.
     Kept(&'a Value),
     /// The object that a reference has.
     Object(ObjectNo),
@@ -118,7 +118,8 @@ impl<'a, L: LinkStore> ModelRef<'a, L> {
         }
     }
 
-    /// Whether a feature may hold a value.
+    /// Whether a caller may give a feature this value; never if it is a proxy, since proxies come only from documents. The feature
+    /// `contents` takes every live object.
     pub fn takes(&self, feature: FeatureNo, value: &Value) -> bool
         ensures { result ≡ r.takes (reading self.now) feature value.now }
     {
@@ -138,7 +139,8 @@ impl<'a, L: LinkStore> ModelRef<'a, L> {
         }
     }
 
-    /// Whether a reference to a class, single or not, may hold a value.
+    /// Whether a caller may give a reference this value: null if the reference is `single`, or an object whose class conforms to `target`;
+    /// never a proxy.
     fn is_reference_value(&self, single: bool, target: ClassNo, value: &Value) -> bool
         ensures { result ≡ m.is_reference_value self.now.metamodel (reading self.now).class single target value.now }
     {

@@ -4,7 +4,8 @@ ghost use Rattle.models.specs.ReferenceKeys as spec;
 
 use mm_types::{FeatureNo, ObjectNo};
 
-/// A reference of an object, and a number: either an index under this reference, or the number of an object under this reference.
+/// An object, a reference of the object, and a number: either an index under this reference, or the number of an object under this
+/// reference.
 #[derive(Clone, Copy, PartialEq, Eq, Hash)]
 pub struct ReferenceKey {
     pub object: u32,

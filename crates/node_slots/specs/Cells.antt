@@ -68,9 +68,9 @@ room t =
 abbrev pub slot_ends : Node → List Slot → List End
 slot_ends n ss = map (λ s. record { node = n; feature = s.feature }) ss
 
--- the ends that have a slot, for all nodes whose number is at least k; `at` gives the node with a number, and rs are all rows. The last
--- list has an element for each of these nodes, in the order of their numbers: 0 if the node has no row, else one more than the index of its
--- row in rs
+-- the ends that have a slot, of the nodes with the numbers from k on; `at` gives the node with a number. The last argument has an element
+-- for each of these nodes, in the order of their numbers: 0 if the node has no row, else one more than the index of its row in rs, the list
+-- of all rows
 abbrev pub row_ends : (ℕ → Node) → ℕ → List Row → List ℕ → List End
 row_ends at k rs [] = []
 row_ends at k rs (p ∷ ps) = slot_ends (at k) (row_slots (row_from rs (place_at (Some p)))) ++ row_ends at (suc k) rs ps
@@ -111,7 +111,8 @@ cell_edit n x c =
       entered = λ m. if same_node n m then entered_after x (c.entered m) else c.entered m;
     }
 
--- there is capacity for a change of the node n; a holder is given only to a node with a row
+-- the capacity r is enough for what a change of the node n adds, and the change takes back no more capacity than r has. A value other than
+-- an object is added only to an end that may have values other than objects. A holder is given only to a node with a row
 abbrev pub Fits : Node → RowEdit → Room → Type 0
 Fits n (Change f x) r = (slot_edit_capacity x ≤ r.places (record { node = n; feature = f })) × CanEdit (r.mixed (record { node = n; feature = f })) x
 Fits n (Hold None) r = Unit {0}

@@ -30,7 +30,7 @@ abbrev pub lone_entry : ObjectNo → Option FeatureNo → Node → ℕ
 lone_entry o None n = one_if (same_node (node.Object o) n)
 lone_entry o (Some g) n = 0
 
--- how many ends an edit adds to the ends with no opposite that have the node n as a value
+-- how many entries of the node n an edit adds. The entries of a node are the ends with no opposite that have the node as a value
 abbrev pub entry : Node → Edit → ℕ
 entry n (edit.Cut e v) = 0
 entry n (edit.Put l) = lone_entry l.object l.opposite n
@@ -43,7 +43,7 @@ gains plan x = sum_by (gain x) plan
 abbrev pub entries : List Edit → Node → ℕ
 entries plan n = sum_by (entry n) plan
 
--- if an edit puts a proxy into an end, that end may have values that are no objects
+-- if an edit puts a proxy into an end, the capacity r allows values other than objects at this end
 abbrev pub Takes : Room → Edit → Type 0
 Takes r (edit.Cut e v) = Unit {0}
 Takes r (edit.Put l) = Unit {0}

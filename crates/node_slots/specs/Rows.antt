@@ -99,7 +99,8 @@ entries_taken (Enter d) = 1
 entries_taken (Leave i) = zero
 entries_taken (ForgetEntries n) = n
 
--- there is capacity for the change; a holder is given only to a node with a row
+-- there is capacity for what the change adds, and the change takes back no more capacity than is reserved. A value other than an object is
+-- added only to an end that may have values other than objects. A holder is given only to a node with a row
 abbrev pub RowFits : RowEdit → Option Row → Type 0
 RowFits (Change f x) o = (slot_edit_capacity x ≤ row_indexes o f) × CanEdit (row_mixed o f) x
 RowFits (Hold None) o = Unit {0}
@@ -123,7 +124,7 @@ pub record AreRowsEdited (i : ℕ) (x : RowEdit) (old new : ℕ → Option Row) 
   pub here : IsRowEdited x (old i) (new i)
   pub others : (j : ℕ) → ((j ≡ i) → ⊥) → new j ≡ old j
 
--- the same row, with no less capacity
+-- the row has the same content and no less capacity; a node that had no row may have one now
 pub record IsRowGrown (old new : Option Row) : Type 0 where
   pub vals : (g : FeatureNo) → row_vals new g ≡ row_vals old g
   pub pairing : (g : FeatureNo) → row_pairing new g ≡ row_pairing old g

@@ -95,7 +95,7 @@ pub record AreSlotsEdited (f : FeatureNo) (x : SlotEdit) (old new : List Slot) :
   pub here : IsFeatureEdited x (slot_in old f) (slot_in new f)
   pub others : (g : FeatureNo) → ((f.0 ≡ g.0) → ⊥) → slot_in new g ≡ slot_in old g
 
--- the same values, with no less capacity
+-- the same values, with no less capacity; a feature that could take other values than objects still can
 pub record IsFeatureGrown (old new : Option Slot) : Type 0 where
   pub values : values_of new ≡ values_of old
   pub pairing : pairing_of new ≡ pairing_of old

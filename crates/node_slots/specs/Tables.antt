@@ -2,7 +2,8 @@
 use Rattle.std.specs.Prelude.{◌≡◌, ℕ, zero, suc, ◌<◌, List, slice_get, Option, Some, None}
 use Rattle.node_slots.specs.declared.row.Row.{Row}
 
--- `places` has at each number 0 if there is no row, else one more than the row's index
+-- the rows of nodes, by number. At each number `places` has 0 if the node with this number has no row, else one more than the index of the
+-- node's row in `rows`
 pub record Table : Type 0 where
   pub places : List ℕ
   pub rows : List Row

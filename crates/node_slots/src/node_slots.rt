@@ -17,8 +17,8 @@ pub use growth::PutPlaces;
 use mm_types::{End, Node, ObjectNo, Value};
 use std::alloc::Global;
 
-/// A row for each node for which capacity was reserved: for a value of the node, or for an end with no opposite that has the node as a
-/// value.
+/// A row for each node for which capacity was reserved: capacity for values at the node's ends, or capacity for entries, which are the ends
+/// with no opposite that have the node as a value.
 #[derive(Drop)]
 pub struct NodeSlots {
     objects: RowTable,
@@ -204,9 +204,9 @@ impl NodeSlots {
         }
     }
 
-    /// Makes one change of a node, for which there is capacity. Takes no memory. The capacity of an end may always be used for an object.
-    /// It may be used for a proxy only if the end may have values other than objects; `reserve_for` allows such values at each end into
-    /// which its plan puts a proxy.
+    /// Makes one change of a node. There is capacity for the change (`Fits`). Takes no memory. The capacity of an end may always be used
+    /// for an object. It may be used for a proxy only if the end may have values other than objects; `reserve_for` allows such values at
+    /// each end into which its plan puts a proxy.
     pub fn edit(&mut self, node: Node, edit: RowEdit)
         requires { Fits node edit (room self.old) }
         ensures cells { cells self.new ≡ cell_edit node edit (cells self.old) }
@@ -218,8 +218,8 @@ impl NodeSlots {
         }
     }
 
-    /// Makes one change of a node, for which there is capacity, as `edit` does, in the row at `row_index`. Takes no memory, and moves no
-    /// row.
+    /// Makes one change of a node, as `edit` does; `row_index` is the index of the node's row. There is capacity for the change. Takes no
+    /// memory, and moves no row.
     pub fn edit_at(&mut self, node: Node, row_index: usize, edit: RowEdit)
         requires at { row_index_of self.old node ≡ Some row_index }
         requires fits { Fits node edit (room self.old) }

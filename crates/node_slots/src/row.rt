@@ -21,7 +21,8 @@ pub enum RowEdit {
     Hold(Option<End>),
     /// Adds an end with no opposite that has the node as a value.
     Enter(End),
-    /// Takes out the end at an index among the ends with no opposite that have the node as a value; past the last one nothing changes.
+    /// Takes out the end at an index among the ends with no opposite that have the node as a value. If the index is past the last of these
+    /// ends, nothing changes.
     Leave(usize),
     /// Takes back capacity that was reserved for ends with no opposite that have the node as a value. No end changes.
     ForgetEntries(usize),
@@ -137,7 +138,7 @@ fn push_on(ends: &mut ShortList<End>, end: End)
     ends.insert(ends.len(), end);
 }
 
-/// Takes out the end at an index; past the last one nothing changes.
+/// Takes out the end at an index. If the index is past the last end, nothing changes.
 fn remove_from(ends: &mut ShortList<End>, index: usize)
     ensures items { ends.new.items ≡ remove ends.old.items index }
     ensures places { ends.old.spare ≤ ends.new.spare }

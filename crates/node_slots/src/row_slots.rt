@@ -155,8 +155,8 @@ fn edit_slot(slots: &mut Vec<Slot>, feature: FeatureNo, edit: SlotEdit)
     }
 }
 
-/// A list of the only slot of a node and a new slot of a different feature. Fails only if memory is refused, and then the slot stays where
-/// it is.
+/// Moves `slot`, the only slot of a node, into a list, and adds a new slot of `feature`, which is a different feature. Fails only if memory
+/// is refused, and then the slot stays where it is.
 fn with_new(alloc: Global, slot: &mut Slot, feature: FeatureNo) -> Result<Vec<Slot>, AllocError>
     ensures grown { IfOk result (λ v. AreSlotsGrown (slot.old ∷ []) v.items) }
     ensures ok { IfOk result (λ v. (slot_in v.items feature ≡ None) → ⊥) }
@@ -192,8 +192,8 @@ fn add_slot(slots: &mut Vec<Slot>, feature: FeatureNo) -> Result<(), AllocError>
     Ok(())
 }
 
-/// Reserves capacity for one more value in the only slot of a node, which is the slot of the feature: for any value if `is_mixed`,
-/// otherwise for an object.
+/// Reserves capacity for one more value in `slot`, the only slot of a node; it is the slot of `feature`. The capacity is for any value if
+/// `is_mixed`, otherwise for an object.
 fn promise_one(
     slot: &mut Slot,
     alloc: Global,

@@ -1,4 +1,5 @@
--- The attached adapters in attach order, each with its targets: which adapters get a notification, and the adapters after they got a chain.
+-- The attached adapters in attach order, each with its targets: which adapters get a notification, and what the adapters are after a chain
+-- is delivered.
 use Rattle.std.specs.Prelude.{ℕ, ◌+◌, ◌<◌, Bool, ◌&&◌, ◌||◌, nat_eq, nat_lt, nat_le, List, [], ◌∷◌, ◌++◌, map, filter, length, ◌^◌, Option, if◌then◌else◌, All, sum_by}
 use Rattle.std.specs.List.{IsDistinct, list_any, find}
 use Rattle.mm_types.specs.declared.numbers.AdapterNo.{AdapterNo}
@@ -95,7 +96,8 @@ audience_numbers up n rs = map (λ r. r.no) (audience up n rs)
 abbrev pub adapter_after_notices : Listed → List Notice → Listed
 adapter_after_notices r ns = record { no = r.no; targets = r.targets; view = hear_all r.view ns }
 
--- the adapters after a chain: each got the notifications of the chain that are for it, whatever the others get
+-- the adapters after a chain is delivered: each adapter has got the notifications of the chain that are for it, whatever the other adapters
+-- get
 abbrev pub tell_chain : Above → List Notice → List Listed → List Listed
 tell_chain up ns rs = map (λ r. adapter_after_notices r (heard_of up ns r)) rs
 

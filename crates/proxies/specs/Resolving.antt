@@ -18,7 +18,7 @@ use Rattle.proxies.specs.declared.resolved_proxy.ResolvedProxy.{ResolvedProxy}
 abbrev pub opposite_end : Reading → End → ObjectNo → Option End
 opposite_end r e o = option_map (far_end o) (shape_at r e).opposite
 
--- the text of the proxy at an index, if one is there
+-- the text of the proxy at index i of the end e; none if no proxy is there
 abbrev pub proxy_at : Reading → End → ℕ → Option (List ℕ)
 proxy_at r e i = option_and_then text_of (slice_get (r.values e) i)
 
@@ -30,7 +30,7 @@ leads_to r n v = option_map_or (λ o. same_node (node.Object o) n) (option_and_t
 abbrev pub first_to : Reading → Node → End → Option Counterpart
 first_to r n d = option_map (λ j. record { end = d; index = j }) (position (leads_to r n) (r.values d))
 
--- the first proxy at the opposite end of a link between e and an object, among the proxies that have the node of e at their address
+-- at the opposite end of a link between e and the object o, the first proxy that has the node of e at its address
 abbrev pub counterpart : Reading → End → ObjectNo → Option Counterpart
 counterpart r e o = option_and_then (first_to r e.node) (opposite_end r e o)
 

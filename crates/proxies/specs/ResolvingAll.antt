@@ -43,7 +43,7 @@ resolutions r [] = []
 resolutions r (p ∷ ps) =
     option_map_or (λ x. record { reads = r; site = p; target = x } ∷ resolutions (with_resolved r p x) ps) (resolved_to r p) (resolutions r ps)
 
--- what ends hold after the proxies at some locations are resolved one after another, as far as they can be
+-- the values of each end after the proxies at some locations are resolved, one after another, as far as they can be
 abbrev pub values_left : Reading → List ProxySite → End → List Value
 values_left r [] = r.values
 values_left r (p ∷ ps) = option_map_or (λ x. values_left (with_resolved r p x) ps) (resolved_to r p) (values_left r ps)
@@ -56,7 +56,7 @@ left_by r ps = record r { values = values_left r ps }
 abbrev pub all_resolved : Reading → Reading
 all_resolved r = left_by r (sites r)
 
--- how many proxies are resolved, counting two proxies of one link as one; and `unresolved_count`, how many proxies remain
+-- how many proxies are resolved; two proxies of one link count as one. And `unresolved_count`: how many proxies remain
 abbrev pub resolved_count : Reading → ℕ
 resolved_count r = length (resolutions r (sites r))
 

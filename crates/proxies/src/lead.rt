@@ -120,7 +120,7 @@ impl FirstLeads {
         Ok(first)
     }
 
-    /// Gives the key of a `Lead` the index of its proxy, if the key has no index yet. A `Lead` without an object has no key, and changes
+    /// If the key of `lead` has no index yet, gives it the index of the proxy of `lead`. A `Lead` without an object has no key, and changes
     /// nothing.
     fn add(&mut self, lead: Lead) -> Result<(), AllocError>
         ensures { OnOk result ((k : ReferenceKey) → spec.index_at self.new k ≡ option_or (spec.index_at self.old k) (spec.first_index (lead ∷ []) k)) }

@@ -44,8 +44,8 @@ pub fn target_at<L: LinkStore>(
     }))
 }
 
-/// The first proxy at the opposite end of a link between `end` and an object, among the proxies that have the node of `end` at their
-/// address. `None` if there is no opposite end or no such proxy. Fails only if memory is refused.
+/// At the opposite end of a link between `end` and `object`, the first proxy that has the node of `end` at its address. `None` if there is
+/// no opposite end or no such proxy. Fails only if memory is refused.
 fn counterpart<L: LinkStore>(
     alloc: Global,
     model: &ModelRef<L>,
@@ -153,7 +153,7 @@ pub fn is_there_already<L: LinkStore>(
     }
 }
 
-/// The text of the proxy at an index of an end, if one is there. Takes no memory.
+/// The text of the proxy at an index of an end; `None` if no proxy is there. Takes no memory.
 pub fn proxy_at<'a, L: LinkStore>(model: &ModelRef<'a, L>, end: End, index: u32) -> Option<&'a str>
     ensures { option_copied result ≡ resolving.proxy_at (reading model.now) end index }
 {
@@ -174,7 +174,8 @@ fn uri_of(text: &str) -> &str
 }
 
 /// Why a proxy can't be resolved, without the refusals that `resolve_refusal` tests before: `Unloaded` if no resource has the URI in the
-/// proxy's text, `Unresolved` if no object is at the proxy's address, `Unmatched` if `is_unmatched`.
+/// proxy's text, `Unresolved` if no object is at the proxy's address, `Unmatched` if the proxy needs a counterpart and has none
+/// (`is_unmatched`).
 fn lost_refusal<L: LinkStore>(
     model: &ModelRef<L>,
     end: End,

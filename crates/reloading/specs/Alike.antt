@@ -9,7 +9,7 @@ use Rattle.models.specs.Reading.{Reading, at_end, has_uri, roots_end}
 use Rattle.fragment_paths.specs.Fragments.{address}
 use Rattle.reloading.specs.Addressed.{Named, named_value}
 
--- the object p of t has the class, the values and the set flags of the object o of s; values are compared by name
+-- the object p of t has the class, the values and the set flags of the object o of s; values are the same if `name` gives the same for both
 pub record HasSame (name : Reading → Value → Named) (s t : Reading) (o p : ObjectNo) : Type 0 where
   pub class : t.class p ≡ s.class o
   pub values : (f : FeatureNo) → map (name t) (t.values (at_end (node.Object p) f)) ≡ map (name s) (s.values (at_end (node.Object o) f))

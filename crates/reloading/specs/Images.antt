@@ -13,11 +13,12 @@ use Rattle.doc_writer.specs.Written.{objects_in}
 use Rattle.doc_loader.specs.Loading.{loaded_number, loaded_value}
 use Rattle.round_trip.specs.Copied.{renamed_value, root_copied}
 
--- the image of an object of resource k, if the first object gets the number n
+-- the image of an object of resource k, if the first object of the document gets the number n
 abbrev pub image : Reading → ResourceNo → ℕ → ObjectNo → ObjectNo
 image r k n o = loaded_number n (root_copied (objects_in r k) o)
 
--- the image of a value: for an object of the resource its image, for an object of another resource a proxy with its address
+-- the image of a value: an object of resource k gives its image, an object of a different resource gives a proxy with the address of that
+-- object, and any other value stays as it is
 abbrev pub value_image : Reading → ResourceNo → ℕ → Value → Value
 value_image r k n v = loaded_value n (renamed_value r (objects_in r k) v)
 

@@ -46,15 +46,16 @@ IsOrder r made filled [] = (k : ResourceNo) → has_resource r k ≡ true → ha
 IsOrder r made filled (Make k ∷ ts) = IsMaking r made k × IsOrder r (made ++ k ∷ []) filled ts
 IsOrder r made filled (Fill k ∷ ts) = IsFilling made filled k × IsOrder r made (filled ++ k ∷ []) ts
 
--- the number that a new resource has, if the resources were made in the order of the list `made`
+-- the number of the resource that was made for the saved resource k; 0 if none was made. `made` lists the saved resources in the order in
+-- which resources were made for them
 abbrev pub number_of : List ResourceNo → ResourceNo → ResourceNo
 number_of made k = record { 0 = unwrap_or (position (is_same k) made) 0 }
 
 abbrev pub uri_of : Reading → ResourceNo → List ℕ
 uri_of r k = unwrap_or (slice_get r.uris k.0) []
 
--- the changes of tasks: `Make` makes a resource with the URI of the saved one, `Fill` loads the document of the saved resource into the new
--- one
+-- the changes of tasks: `Make k` makes a resource with the URI of the saved resource k; `Fill k` loads the document of the saved resource k
+-- into the resource that was made for k
 abbrev pub changes : Reading → List ResourceNo → List Task → List Change
 changes r made [] = []
 changes r made (Make k ∷ ts) = NewResource (uri_of r k) ∷ changes r (made ++ k ∷ []) ts
@@ -65,7 +66,7 @@ abbrev pub after_all : Model → List Change → Model
 after_all t [] = t
 after_all t (c ∷ cs) = after_all (model_after t c) cs
 
--- a change is not refused; and `AreAllowed`, no change of a list is refused in the model as it is after the changes before it
+-- a change is not refused in the model t. `AreAllowed`: none of the changes of a list is refused, if they are made in t one after another
 pub record IsAllowed (t : Model) (c : Change) : Type 0 where
   pub early : early_refusal (reading t) c ≡ None
   pub late : late_refusal (reading t) c ≡ None

@@ -21,7 +21,7 @@ AreResolves t [] = HasNoProxy (reading t)
 AreResolves t (At e (Resolve i) ∷ cs) = (is_some (proxy_at (reading t) e i) ≡ true) × AreResolves (model_after t (At e (Resolve i))) cs
 AreResolves t (c ∷ cs) = ⊥
 
--- the model that results if the loads of the saved resources are done in an empty model
+-- the model that the tasks ts leave: they make the resources of s in an empty model, and load their documents
 abbrev pub reloaded_model : Model → List Task → Model
 reloaded_model s ts = after_all (empty_model s.metamodel) (changes (reading s) [] ts)
 
@@ -31,8 +31,8 @@ pub record IsHadAgain (s : Model) (ts : List Task) (cs : List Change) : Type 0 w
   pub resolves : AreAllowed (reloaded_model s ts) cs
   pub alike : Alike (reading s) (reading (after_all (reloaded_model s ts) cs))
 
--- after the loads in some order: there is a list of resolves after which no proxy is left; after each such list the model is isomorphic to
--- the saved one; and so it is after one resolve of all proxies
+-- after the loads in some order: there is a list of resolves that leaves no proxy; after each list of resolves that leaves no proxy, the
+-- model is isomorphic to the saved one; after one resolve of all proxies, it is isomorphic to the saved one too
 pub record IsReloaded (s : Model) (ts : List Task) : Type 0 where
   pub some : (cs : List Change) × AreResolves (reloaded_model s ts) cs
   pub had : (cs : List Change) → AreResolves (reloaded_model s ts) cs → IsHadAgain s ts cs

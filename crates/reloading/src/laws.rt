@@ -23,32 +23,32 @@ pub fn an_address_is_of_one_object()
 {}
 
 /// If a resolve of a proxy of a legal model is not refused, it changes no object's address. If a load of a document that was read is not
-/// refused, it changes the address of no object that has one.
+/// refused, each object that has an address keeps this address.
 pub fn resolves_and_loads_keep_addresses()
     ensures resolves { (s : Model) (o : ObjectNo) (f : FeatureNo) (i : ℕ) → ResolvesKeepAddresses s o f i }
     ensures loads { (s : Model) (k : ResourceNo) (doc : Doc) → LoadsKeepAddresses s k doc }
 {}
 
-/// Take a legal model whose URIs are normalised, and one of its resources that can be saved and read back (`IsReadable`). If the document
-/// of this resource is loaded into a legal model of the same metamodel and the load is not refused, then each saved object is made there,
-/// under the next numbers: with its class, its flags, its container and the values of its ends. A value that is an object of another
-/// resource becomes a proxy with the address of that object. Each new object is in the resource of the load, and has the address of the
-/// saved object if both resources have the same URI (EMF: XMLResource.save, XMLResource.load).
+/// Take a legal model whose URIs are normalised, and one of its resources that can be saved and read back (`IsReadable`). Let the document
+/// of this resource be loaded into a legal model of the same metamodel, and let the load not be refused. Then the load makes each saved
+/// object anew, with its class, its flags, its container and the values of its ends. The new objects get the next numbers. If a value was
+/// an object of a different resource, the new value is a proxy with the address of that object. Each new object is in the resource of the
+/// load. It has the address of the saved object if both resources have the same URI (EMF: XMLResource.save, XMLResource.load).
 pub fn what_was_saved_is_loaded_as_it_was()
     ensures { (s : Model) (w : ValuesState) (b : Links) → LoadsSaved s w b }
 {}
 
-/// Take a legal model without proxies, whose URIs are normalised, whose resources can all be saved, and in which no text of a reference is
-/// longer than 65,535 bytes. Its resources are made in an empty model of the same metamodel, and their documents are loaded there, in any
-/// order in which no resource is loaded before it is made. Only memory can refuse these changes, and the model after them is a partly
+/// Take a legal model of this kind: it has no proxies; its URIs are normalised; all its resources can be saved; and no text of a reference
+/// is longer than 65,535 bytes. Make its resources in an empty model of the same metamodel, and load their documents, in any order in which
+/// no resource is loaded before it is made. These changes can be refused only for lack of memory, and the model after them is a partly
 /// resolved copy of the saved model.
 pub fn loads_in_any_order_give_what_stands_between()
     ensures { (s : Model) → LoadsGiveBetween s }
 {}
 
-/// Take a legal model without proxies, and a legal, partly resolved copy of it. Only memory can refuse the resolve of a proxy of the copy.
-/// After the resolve, the copy is still partly resolved, and has one proxy fewer, or two fewer if the reference of the proxy has an
-/// opposite.
+/// Take a legal model without proxies, and a legal, partly resolved copy of it. The resolve of a proxy of the copy can be refused only for
+/// lack of memory. After the resolve, the copy is still partly resolved, and has one proxy fewer, or two fewer if the reference of the
+/// proxy has an opposite.
 pub fn resolving_stays_between()
     ensures { (s : Model) (w : ValuesState) (b : Links) → ResolvesBetween s w b }
 {}
@@ -64,16 +64,16 @@ pub fn with_no_proxy_left_none_stands()
     ensures { (s : Model) → IsLegal s → proxies_len (reading s) ≡ 0 → HasNoProxy (reading s) }
 {}
 
-/// If a saved model has no proxies, and neither has a partly resolved copy of it, the two models are isomorphic.
+/// If neither a saved model nor a partly resolved copy of it has proxies, the two models are isomorphic.
 pub fn without_proxies_models_between_are_alike()
     ensures { (s t : Reading) → HasNoProxy s → HasNoProxy t → Between s t → Alike s t }
 {}
 
-/// Take a legal model without proxies, whose URIs are normalised, whose resources can all be saved, and in which no text of a reference is
-/// longer than 65,535 bytes. Its resources are made and loaded in an empty model of the same metamodel, in any order in which no resource
-/// is loaded before it is made. Then proxies are resolved one by one in any order, until none is left. Only memory can refuse these
-/// changes, and the model after them is isomorphic to the saved one. Some list of resolves ends with no proxy left, and a resolve of all
-/// proxies does so too.
+/// Take a legal model of this kind: it has no proxies; its URIs are normalised; all its resources can be saved; and no text of a reference
+/// is longer than 65,535 bytes. Make its resources in an empty model of the same metamodel, and load their documents, in any order in which
+/// no resource is loaded before it is made. Then resolve proxies one by one in any order, until none is left. These changes can be refused
+/// only for lack of memory, and the model after them is isomorphic to the saved one. There is a list of resolves that leaves no proxy. A
+/// resolve of all proxies leaves none either, and gives an isomorphic model too.
 pub fn what_was_saved_is_had_again_in_any_order()
     ensures { (s : Model) → ReloadsInAnyOrder s }
 {}

@@ -25,9 +25,8 @@ is_lost r o e v = goes (is_in_subtree r o) v && not (is_held_by r o e && same_va
 abbrev pub loss : End → Value → ℕ → Loss
 loss e v k = record { end = e; value = v; position = k }
 
--- the losses of the end e, for its values from some position on; `lost` says which values the end loses, and k is the number of values
--- before that position that stay. A loss takes its value out before the next loss, so the position of a loss is the number of earlier
--- values that stay
+-- the losses of the end e, for its values from some index on. `lost` says which values e loses; k is how many values before that index
+-- stay. Each lost value is taken out before the next loss, so the position of a loss is the number of earlier values that stay
 abbrev pub losses_from : (Value → Bool) → End → List Value → ℕ → List Loss
 losses_from lost e [] k = []
 losses_from lost e (v ∷ vs) k = if lost v then loss e v k ∷ losses_from lost e vs k else losses_from lost e vs (suc k)

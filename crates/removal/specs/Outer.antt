@@ -36,6 +36,6 @@ outer_ends r is_gone = flat_map (ends_of r is_gone) (range_with_len 0 (suc (leng
 abbrev pub holds_some : Reading → (Node → Bool) → End → Bool
 holds_some r is_gone e = (shape_at r e).is_reference && list_any (goes is_gone) (r.values e)
 
--- the ends of other nodes that have as a value an object that is destroyed with o
+-- the ends of nodes that remain when o is destroyed, if they have a destroyed object as a value
 abbrev pub touched_ends : Reading → ObjectNo → List End
 touched_ends r o = filter (holds_some r (is_in_subtree r o)) (outer_ends r (is_in_subtree r o))

@@ -1,4 +1,4 @@
--- What is destroyed with an object, as it was found in a model.
+-- What a deletion of an object concerns, as it was found in a model.
 use Rattle.std.specs.Prelude.{◌≡◌}
 use Rattle.containment.specs.Forest.{subtree}
 use Rattle.models.specs.Reading.{Reading}

@@ -17,9 +17,8 @@ use Rattle.removal.specs.declared.link_end.LinkEnd.{LinkEnd}
 abbrev pub link_end : End → Value → LinkEnd
 link_end e v = record { end = e; value = v }
 
--- whether a link is named at an end of a destroyed node; f is the feature of the end, and v is the value of the link there. The link is
--- named there, unless v is a destroyed object too and the opposite of f has a lower number than f: then the link is named at its opposite
--- end
+-- whether a link is named at an end of a destroyed node; f is the feature of the end, and v is the value of the link there. A link with two
+-- ends, both at destroyed objects, is named only at the end whose feature has the lower number. Any other link is named here
 abbrev pub is_named_here : Reading → (Node → Bool) → FeatureNo → Value → Bool
 is_named_here r is_gone f v = not (goes is_gone v) || option_map_or (λ g. nat_lt f.0 g.0) (shape r.metamodel f).opposite true
 

@@ -1,4 +1,4 @@
-//! What is destroyed with an object.
+//! What a deletion of an object concerns: the objects that it destroys, and the ends of other nodes that lose values.
 ghost use Rattle.std.specs.Prelude.{◌≡◌, true, IfOk};
 ghost use Rattle.models.specs.Model.{reading};
 ghost use Rattle.models.specs.Reading.{is_live};

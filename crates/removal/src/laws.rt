@@ -9,8 +9,8 @@ ghost use Rattle.models.specs.Reading.{is_live};
 ghost use Rattle.removal.specs.Laws.{NameTreeLinks};
 ghost use Rattle.removal.specs.Outer.{holds_some, is_in_subtree, touched_ends};
 
-/// The ends that are found are exactly the ends of remaining nodes that have a destroyed object. Each is found once, in order by feature
-/// number and then by node.
+/// The ends that are found are exactly the ends of remaining nodes that have a destroyed object as a value. Each is found once, in order by
+/// feature number and then by node.
 pub fn touched_ends_are_those_that_hold_something()
     ensures order { (s : Model) (o : ObjectNo) → AreInOrder (touched_ends (reading s) o) }
     ensures all { (s : Model) → IsLegal s → (o : ObjectNo) → is_live (reading s) o ≡ true → (e : End) → has_end (touched_ends (reading s) o) e ≡ (not (is_in_subtree (reading s) o e.node) && holds_some (reading s) (is_in_subtree (reading s) o) e) }

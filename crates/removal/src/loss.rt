@@ -69,7 +69,7 @@ fn push_lost<L: LinkStore>(
     Ok(())
 }
 
-/// Adds the loss of an object, if one was found.
+/// Adds the loss of the object `found` at a position of an end, if an object was found.
 fn push_loss(
     end: End,
     found: Option<ObjectNo>,
@@ -125,8 +125,9 @@ fn last_position<L: LinkStore>(model: &ModelRef<L>, removal: &Removal, end: End)
     kept
 }
 
-/// Whether an object that was found in an end is lost before the deleted object leaves the end that contains it. `is_holder` says whether
-/// the end in question is the one that contains the deleted object. A proxy, for which no object is found, stays.
+/// Whether an end loses a value before the last step of the deletion. `found` is the value if the value is an object, and `None` if it is a
+/// proxy; a proxy stays. The last step takes the deleted object out of the end that contains it. `is_holder` says whether the end that
+/// loses the value contains the deleted object.
 fn is_lost(removal: &Removal, is_holder: bool, found: Option<ObjectNo>) -> bool
     ensures { result ≡ option_map_or (λ x. ranks.is_in removal.now.numbers (node.Object x) && not (is_holder && same_value (value.Object x) (value.Object removal.now.object))) found false }
 {

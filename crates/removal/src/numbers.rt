@@ -13,7 +13,7 @@ use std::collections::BTreeSet;
 pub(crate) struct Numbers(BTreeSet<u32>);
 
 impl Numbers {
-    /// The numbers of these objects. Fails only if memory is refused.
+    /// The numbers of `objects`. Fails only if memory is refused.
     pub(crate) fn of(alloc: Global, objects: &[ObjectNo]) -> Result<Numbers, AllocError>
         ensures { IfOk result (λ s. (n : Node) → ranks.is_in s n ≡ forest.is_node_among objects.now n) }
     {

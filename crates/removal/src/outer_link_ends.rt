@@ -15,7 +15,8 @@ use mm_types::{End, Node, ObjectNo, Value};
 use models::ModelRef;
 use std::alloc::AllocError;
 
-/// Adds the links to destroyed objects that can be named only at `ends`, which are ends of remaining nodes.
+/// Adds the links from `ends`, which are ends of remaining nodes, to destroyed objects. Leaves out the ends of features with an opposite:
+/// their links are named at the ends of the destroyed objects.
 pub(crate) fn push_outer<L: LinkStore>(
     model: &ModelRef<L>,
     ends: &[End],

@@ -1,4 +1,4 @@
--- Adapters do not change the effect of a change on the model.
+-- If a change is not refused, its effect on the model does not depend on the adapters.
 use Rattle.std.specs.Prelude.{◌≡◌, Bool, true, false, None, Ok}
 use Rattle.notice_chain.specs.View.{View}
 use Rattle.repository.specs.Run.{Executed}

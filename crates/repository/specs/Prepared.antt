@@ -22,20 +22,20 @@ use Rattle.repository.specs.State.{State, reads}
 use Rattle.repository.specs.Views.{command_of}
 use Rattle.repository.specs.declared.reply.Answer.{Answer}
 
--- delivering the notifications that were made has the same effect as delivering the whole chain; notifications that no adapter gets may be
--- left out
+-- delivering `made` to the adapters rs has the same effect as delivering the whole chain `chain`; so `made` may lack notifications that no
+-- adapter gets
 pub record TellsAll (up : Above) (made chain : List Notice) (rs : List Listed) : Type 0 where
   pub told : told_list up made rs ≡ told_list up chain rs
   pub adapters : tell_chain up made rs ≡ tell_chain up chain rs
   pub full : is_chain_full up made rs ≡ is_chain_full up chain rs
 
--- the edits es of links, the edits vs of values and the notifications ns are, together with a finding, the plan of the change c
+-- a plan of the change c in the model m, with any finding, has the edits es of links, the edits vs of values and the notifications ns
 abbrev pub IsPlanned : Bool → Model → Change → List Edit → List ValueEdit → List Notice → Type 0
 IsPlanned is_heard m c es vs ns = (f : Finding) × IsPlanOf is_heard m c (record { finding = f; edits = es; values = vs; chain = ns })
 
--- a change is ready: it can be refused only with `AdapterFull` or `Memory`; `text` is the text that it loads, if it is a load; a is its
--- answer, `going` has the targets that are taken away, es and vs are its edits of links and of values, and ns are its notifications;
--- notifications that no adapter gets may be missing in ns
+-- the change c is ready in the state s: it can be refused only with `AdapterFull` or `Memory`. `text` is the text that c loads, if c is a
+-- load; a is the answer of c, and `going` has the targets that are taken away; es and vs are the edits of links and of values. ns has the
+-- notifications of c; those that no adapter gets may be missing
 pub record IsReady (s : State) (text : List ℕ) (c : Change) (a : Answer) (going : List Spot) (es : List Edit) (vs : List ValueEdit) (ns : List Notice) : Type 0 where
   pub asked : early_refusal (reads s) c ≡ None
   pub allowed : late_refusal (reads s) c ≡ None

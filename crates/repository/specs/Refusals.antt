@@ -87,7 +87,8 @@ late_read_refusal r (asks.Save k) = save_refusal r k
 late_read_refusal r (asks.ObjectAt t) = TextLength unless is_short_text t else_by BadUri unless has_mark t
 late_read_refusal r _ = None
 
--- the refusals that planning finds, the refusals that the list of adapters finds, and the refusals of reads by `late_read_refusal`
+-- the refusal of a command that is not refused early. A `CreateResource` or a `Load` may be refused because of its text. Otherwise a change
+-- is refused as planning says. `Attach` and `Watch` are refused by the list of adapters, and reads by `late_read_refusal`
 abbrev pub late_refusal : Reading → List Listed → Command View → Option Refused
 late_refusal r rs (command.CreateResource t) = resource_refusal r t (joined_uri [] t)
 late_refusal r rs (command.Load k text) = load_refusal r k (reads_into r k text)
@@ -96,8 +97,8 @@ late_refusal r rs (command.Watch number target deep) = watch_refusal rs number t
 late_refusal r rs (command.Read q) = late_read_refusal r q
 late_refusal r rs c = option_map_or (planned.late_refusal r) (change_of r c) None
 
--- `AdapterFull` if a command would notify an adapter, and the adapter can't count its notifications of the command and a last notification
--- from each of its targets
+-- `AdapterFull` if an adapter would be notified of the command, but can't count these notifications and a last notification from each of
+-- its targets
 abbrev pub full_refusal : Reading → List Listed → Command View → Option Refused
 full_refusal r rs c = AdapterFull where_so is_chain_full r.above (chain r c) rs
 

@@ -1,4 +1,4 @@
--- Which plans may give a node another container.
+-- Which plans may give a node a different container.
 use Rattle.std.specs.Prelude.{◌&&◌, Bool, true, false, not, List, [], ◌∷◌}
 use Rattle.links.specs.Laws.{touches_containment}
 use Rattle.links.specs.LegalSets.{Kinds}

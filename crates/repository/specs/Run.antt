@@ -24,7 +24,7 @@ abbrev pub is_memory : Outcome → Bool
 is_memory (Ok r) = false
 is_memory (Err f) = is_memory_refusal f.refused
 
--- whether a refusal is always found before memory is taken; a command whose refusal this is does not fail with MEMORY
+-- whether a refusal is always found before memory is taken. A command to which this refusal applies does not fail with MEMORY
 abbrev pub is_plain : Refused → Bool
 is_plain NoObject = true
 is_plain NoResource = true
@@ -71,12 +71,12 @@ abbrev pub read_outcome : {X : Type 0} → (X → Answer) → Result X Refused �
 read_outcome f (Ok x) = Ok (record { answer = f x; told = []; released = [] })
 read_outcome f (Err r) = Err (record { refused = r; given_back = None })
 
--- the outcome of a change at an end; if the change gives no reply, the answer is a
+-- the outcome of a change at an end; a is the answer of a change that gives no reply (`Unheard`)
 abbrev pub brief_outcome : {A : Type 0} → (A → View) → Answer → Brief A → Outcome
 brief_outcome heard a (Unheard r) = read_outcome (λ u. a) r
 brief_outcome heard a (Replied r) = change_outcome (changed_view heard r)
 
--- the outcome of a read whose answer is known
+-- the outcome of a read, from its answer or its refusal
 abbrev pub answered_outcome : Result Answer Refused → Outcome
 answered_outcome = read_outcome (λ a. a)
 
@@ -84,7 +84,7 @@ answered_outcome = read_outcome (λ a. a)
 abbrev pub Executed : State → Command View → Outcome → State → Type 0
 Executed s c o t = MatchBool (is_memory o) (IsWanting s c o t) (step s c ≡ record { outcome = o; after = t })
 
--- each command of a list was executed in the state as it was after the command before it
+-- the commands of a list were executed one after another, each in the state that the command before it left
 abbrev pub AllExecuted : State → List (Command View) → List Outcome → State → Type 0
 AllExecuted s [] [] t = s ≡ t
 AllExecuted s [] (o ∷ os) t = ⊥
@@ -114,6 +114,7 @@ commands_kept cs [] = []
 commands_kept [] (o ∷ os) = []
 commands_kept (c ∷ cs) (o ∷ os) = if is_memory o then commands_kept cs os else c ∷ commands_kept cs os
 
--- a run of the commands that did not fail with MEMORY gives exactly their outcomes, and the state after it is t
+-- the commands cs had the outcomes os. Take the commands that did not fail with MEMORY. A run of these commands alone in the state s gives
+-- exactly their outcomes, and leaves the state t
 abbrev pub IsRun : State → List (Command View) → List Outcome → State → Type 0
 IsRun s cs os t = run s (commands_kept cs os) ≡ record { outcomes = outcomes_kept os; after = t }

@@ -34,8 +34,8 @@ pub(crate) fn known_answer<L: LinkStore>(
     }
 }
 
-/// The answer that a change has if it is not refused; `None` for a deletion, a resolve, and a resolve of all proxies, whose plans give the
-/// answer. Fails only if memory is refused.
+/// The answer that a change has if it is not refused. `None` for a deletion, a resolve, and a resolve of all proxies: the plan of the
+/// change gives the answer. Fails only if memory is refused.
 pub(crate) fn early_answer<L: LinkStore>(
     alloc: Global,
     model: &ModelRef<L>,

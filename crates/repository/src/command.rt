@@ -17,10 +17,10 @@ pub enum Command<A = Box<dyn Adapter>> {
     CreateResource(Text),
     /// Reads a text as a document, and loads the document into an empty resource (EMF: Resource.load).
     Load(ResourceNo, Text),
-    /// Resolves all proxies, one after another (EMF: EcoreUtil.resolveAll). They are ordered by the number of the referring object, then by
-    /// feature in the order of all features, then by index. A proxy is skipped if `Repository::resolve` would refuse it for a reason other
-    /// than `AdapterFull` and `Memory`. If an adapter can't count its notifications, or memory is refused, no proxy is resolved and no
-    /// adapter is notified.
+    /// Resolves all proxies, one after another (EMF: EcoreUtil.resolveAll). The proxies are ordered by the number of the referring object,
+    /// then by feature in the order of all features, then by index. A proxy is skipped if `Repository::resolve` would refuse it for a
+    /// reason other than `AdapterFull` and `Memory`. If an adapter can't count its notifications, or memory is refused, no proxy is
+    /// resolved and no adapter is notified.
     ResolveAll,
     /// Attaches an adapter to a node, last in attach order (EMF: Notifier.eAdapters().add). A deep adapter is also notified of changes
     /// below the node (EMF: EContentAdapter).

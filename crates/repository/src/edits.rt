@@ -90,7 +90,7 @@ impl Edits for NewObjectOf {
     }
 }
 
-/// One new link, which displaces no other.
+/// One new link, which displaces no link.
 impl Edits for NewLink {
     ghost edits_of_links = { λ p. Put p ∷ [] };
 

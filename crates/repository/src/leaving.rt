@@ -16,7 +16,7 @@ use removal::Removal;
 use std::alloc::{AllocError, Global};
 use std::collections::VecDeque;
 
-/// The targets that are taken away with the objects that a change destroys; none if it destroys no object.
+/// The targets at the objects that a change destroys; none if the change destroys no object.
 pub(crate) fn spots_gone<A: Adapter>(
     alloc: Global,
     adapters: &AdapterList<A>,
@@ -31,8 +31,7 @@ pub(crate) fn spots_gone<A: Adapter>(
     }
 }
 
-/// The targets that are taken away with a removal: those at the objects of the removal. Only adapters that have such a target are looked
-/// at.
+/// The targets at the objects of a removal. Only adapters that have a target at one of these objects are looked at.
 fn spots_with<A: Adapter>(
     alloc: Global,
     adapters: &AdapterList<A>,

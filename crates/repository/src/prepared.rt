@@ -44,7 +44,7 @@ pub(crate) trait Planned: Edits {
     ghost covers: { Metamodel → ChangeView → Type 0 };
 
     /// Prepares a change, or gives the refusal that planning finds. Puts the notifications into `chain`, which the caller passes in empty.
-    /// Notifications are made only if an adapter may have to get them.
+    /// Notifications are made only if `is_heard` is set, which says that an adapter may have to get them.
     fn prepare<L: LinkStore, A: Adapter>(
         alloc: Global,
         model: &ModelRef<L>,

@@ -22,8 +22,8 @@ fn touches_containment(meta: &Meta, edits: &Plan) -> bool
         .any(|e| meta.containing(e.end().feature).is_some())
 }
 
-/// Forgets what may be wrong after a plan. The fragments are forgotten if the plan edits a containing link. The adapters that are
-/// remembered for a node are forgotten if the plan may give a node another container. Takes no memory.
+/// Forgets what may be wrong after a plan. The fragments are forgotten if the plan edits a containing link. The remembered adapters are
+/// forgotten if the plan may give some node a different container. Takes no memory.
 #[inline(always)]
 pub(crate) fn forget_touched(
     paths: &mut PathCache,

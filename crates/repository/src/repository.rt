@@ -40,10 +40,11 @@ pub struct Repository<L: LinkStore, A: Adapter = Box<dyn Adapter>> {
     values: Values,
     store: L,
     adapters: AdapterList<A>,
-    /// The fragments that are remembered: up to 1,024, computed since a plan or a put last edited a containing link.
+    /// The fragments that are remembered, up to 1,024. All of them are forgotten when a plan or a put edits a containing link, and when
+    /// there would be more than 1,024.
     paths: PathCache,
-    /// The adapters that are notified of changes at one node, the node that was looked up last. They are forgotten when a node may get
-    /// another container, and when an adapter gets or loses a target.
+    /// The adapters that are notified of changes at one node, the node that was looked up last. They are forgotten when a node may get a
+    /// different container, and when an adapter gets or loses a target.
     hearers: Hearers,
 }
 

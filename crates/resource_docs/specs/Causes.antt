@@ -65,13 +65,14 @@ abbrev pub is_proxy : Value → Bool
 is_proxy (value.Proxy t) = true
 is_proxy _ = false
 
--- whether a reference with an opposite leads to another resource, which is a fault in documents of the first format
+-- whether the feature of a content is a reference with an opposite, and one of the values is a proxy, which leads to a different resource.
+-- In documents of the first format this is a fault
 abbrev pub has_cross : Metamodel → Content → Bool
 has_cross m c = is_some (shape m c.feature).opposite && list_any is_proxy c.values
 
 ---------------------------------------------------------------- the causes in order
 
--- whether the content of some feature of some object has a property
+-- whether `holds` is true of some object of a document and the content of one of its features
 abbrev pub of_content : (ObjectNo → Content → Bool) → Doc → Bool
 of_content holds d = list_any (λ x. list_any (holds (record { 0 = x.0 })) x.1.contents) (enumerate_from 0 d.objects)
 
@@ -107,7 +108,8 @@ unless_faulty (Some f) doc = Err f
 abbrev pub reads : Metamodel → Base → Data → Result Doc DocFault
 reads m b d = unless_faulty (cause_of m b d) (doc_read m b d)
 
--- the JSON value of bytes; none if the bytes are no JSON in UTF-8, or JSON with more than 127 levels, and then `Syntax` is the cause
+-- the JSON value of bytes. None if the bytes are no JSON in UTF-8, if the JSON has more than 127 levels, or if a number is too large for a
+-- float; then `Syntax` is the cause
 abbrev pub parsed_json : List ℕ → Option Data
 parsed_json bytes = if is_utf8 bytes then read bytes else None
 
@@ -127,7 +129,7 @@ pub record IsRead (m : Metamodel) (uri : List ℕ) (doc : Doc) : Type 0 where
   pub source : Data
   pub gives : reads m (base_of uri) source ≡ Ok doc
 
--- the result is the wanted document, whose proxies have normalised URIs, or the wanted fault; or it is `Memory`, whatever is wanted
+-- the result is as `wanted`: the document, whose proxies have normalised URIs, or the fault. Or the result is `Memory`, whatever is wanted
 abbrev pub Answers : Result Doc Refused → Result Doc DocFault → Type 0
 Answers (Ok doc) wanted = (wanted ≡ Ok doc) × HasSteadyProxies doc
 Answers (Err (Document f)) wanted = wanted ≡ Err f

@@ -1,4 +1,4 @@
--- Which objects of a document refer to which other objects.
+-- Which objects of a document refer to which objects of the same document.
 use Rattle.std.specs.Prelude.{◌≡◌, ℕ, ◌&&◌, Bool, false, is_some, not, List, nat_eq}
 use Rattle.std.specs.List.{enumerate_from, list_any}
 use Rattle.std.specs.Option.{option_map_or}

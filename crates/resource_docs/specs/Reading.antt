@@ -45,7 +45,7 @@ abbrev pub values_so_far : Metamodel → Base → List Part → Path → Feature
 values_so_far m b ps path f k ds =
     record { values = filter_map (value_of m b ps path f k) (enumerate_from 0 ds); is_lost = list_any (is_lost m b ps k) ds }
 
--- what is read from all data of a feature
+-- what is read from the entry e: from all JSON values under one feature
 abbrev pub entry_read : Metamodel → Base → List Part → Path → Entry → ReadValues
 entry_read m b ps path e = record { values = values_read m b ps path e; is_lost = has_lost m b ps e }
 

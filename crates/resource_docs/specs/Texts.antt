@@ -28,16 +28,18 @@ uri_meant b (c ∷ cs) = b.join (c ∷ cs)
 abbrev pub target_in : Base → List ℕ → List ℕ → Path → Referent
 target_in b rest uri p = if bytes_eq uri b.uri then Here p else Elsewhere (address_text uri rest)
 
--- the target of an address that is cut in two: `part` is a URI or empty, and `rest` is the fragment
+-- the target of an address that is cut in two: `part` is a URI, a relative reference or empty, and `rest` is the fragment. None if `rest`
+-- is no fragment, or if joining gives no URI
 abbrev pub target_at : Base → List ℕ → List ℕ → Option Referent
 target_at b part rest = parse rest >>= (λ p. option_map (λ u. target_in b rest u p) (uri_meant b part))
 
--- the target of a text: a text without `#` is a fragment of the document; in any other text a URI or nothing comes before the first `#`,
--- and a fragment after it
+-- the target of a text: a text without `#` is a fragment of the document; in any other text a URI, a relative reference or nothing comes
+-- before the first `#`, and a fragment after it. None if the text does not have this form, or if joining gives no URI
 abbrev pub target : Base → List ℕ → Option Referent
 target b t = if has_mark t then target_at b (uri_part t) (fragment_part t) else option_map Here (parse t)
 
--- a target in another resource is the text of a proxy with a normalised URI; a target in the document itself may be any
+-- if a target is in a different resource, it is the text of a proxy with a normalised URI; nothing is required of a target in the document
+-- itself
 abbrev pub IsProxyReferent : Referent → Type 0
 IsProxyReferent (Here p) = Unit {0}
 IsProxyReferent (Elsewhere t) = IsSteadyProxy t

@@ -8,7 +8,7 @@ use std::alloc::{AllocError, Global};
 use std::marker::Model;
 use std::{mem, slice};
 
-/// How contents are kept. Most objects have at most two contents, which take no block of memory.
+/// How contents are kept. Most objects have at most two contents, which are kept inline and not in a block of memory.
 #[derive(Debug, Drop)]
 enum Layout {
     Empty,
@@ -23,7 +23,7 @@ pub struct Contents {
     layout: Layout,
 }
 
-/// The contents that `Contents::into_parts` takes out of the `Contents` of an object: at most two of them, or a list.
+/// The contents of an object, as `Contents::into_parts` returns them: at most two contents inline, or a list.
 #[derive(Drop)]
 pub enum ContentParts {
     Few(Option<Content>, Option<Content>),

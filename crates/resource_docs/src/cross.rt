@@ -45,7 +45,7 @@ fn is_any_crossed(meta: &Meta, objects: &[DocObject]) -> bool
         .any(|object| has_any_cross(meta, object.contents.as_slice()))
 }
 
-/// Whether a reference with an opposite leads to a different resource. Takes no memory.
+/// Whether some reference of a document has an opposite and leads to a different resource. Takes no memory.
 pub(crate) fn has_crosses(meta: &Meta, doc: &Doc) -> bool
     ensures { result ≡ of_content (λ o c. cross_meant meta.now c) doc.now }
 {

@@ -121,7 +121,7 @@ impl DocValues {
         }
     }
 
-    /// `Ok` with the value, if it is kept by itself; else `Err` with the list of the values. Takes no memory.
+    /// `Ok` with the value if there is one value that is kept without a list; otherwise `Err` with the list of all values. Takes no memory.
     pub fn into_one(self, alloc: Global) -> Result<Value, Seq<Value>>
         ensures { MatchResult result (λ v. self ≡ v ∷ []) (λ vs. self ≡ vs) }
     {

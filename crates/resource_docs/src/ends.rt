@@ -10,7 +10,7 @@ use mm_meta::Meta;
 use mm_types::{FeatureNo, Value};
 use std::alloc::{AllocError, Global};
 
-/// A reference in a document: the object `object` names the object `named` under `feature`. Both are given by their numbers in the
+/// A reference in a document: the object `object` names the object `named` under `feature`. Both objects are given by their numbers in the
 /// document.
 #[derive(Clone, Copy, PartialEq, Eq, Hash)]
 pub(crate) struct Naming {
@@ -30,7 +30,7 @@ impl Ends {
     ghost use Rattle.resource_docs.specs.Ends.{IsEndsOf, any_one_sided_by, by_contents, by_values, has, one_sided_by, same_naming, unanswered_by};
     ghost use Rattle.resource_docs.specs.declared.ends.Naming.{Naming};
 
-    /// An empty set: no object names another one. Takes no memory.
+    /// An empty set: no object names an object. Takes no memory.
     fn new(alloc: Global) -> Self
         ensures { (k : Naming) → has result k ≡ false }
     {
@@ -157,8 +157,8 @@ impl Ends {
             .any(|content| self.is_one_sided(meta, object, content))
     }
 
-    /// Whether an object a names an object b under a feature that has an opposite and is no containment, and b does not name a under the
-    /// opposite. Takes no memory.
+    /// Whether an object `a` names an object `b` under a feature that has an opposite and is no containment, but `b` does not name `a`
+    /// under the opposite. Takes no memory.
     fn has_one_sided(&self, meta: &Meta, objects: &[DocObject]) -> bool
         ensures { result ≡ any_one_sided_by meta.now self.now objects.now }
     {
@@ -192,8 +192,8 @@ fn is_any_asked(meta: &Meta, objects: &[DocObject]) -> bool
         .any(|object| any_asks_back(meta, object.contents.as_slice()))
 }
 
-/// Whether an object a of a document names an object b under a feature that has an opposite and is no containment, and b does not name a
-/// under the opposite. Fails only if memory is refused; takes no memory if no object has to be named back.
+/// Whether an object `a` of a document names an object `b` under a feature that has an opposite and is no containment, but `b` does not
+/// name `a` under the opposite. Fails only if memory is refused. Takes no memory if no object has a value under a feature of this kind.
 pub(crate) fn has_one_sided(alloc: Global, meta: &Meta, doc: &Doc) -> Result<bool, AllocError>
     ensures { IfOk result (λ b. b ≡ of_content (is_one_sided meta.now doc.now) doc.now) }
 {

@@ -30,8 +30,8 @@ pub(crate) fn has_first_format(top: TopMembers) -> bool
     top.format == i64::from(limits::FIRST_DOCUMENT_FORMAT)
 }
 
-/// What is wrong with the shape of the parts, the format, or the names of the parts' classes: the first of these causes that applies. Takes
-/// no memory.
+/// The first of the causes `Layout`, `Format` and `Class` that applies. These causes are about the shape of the parts, the format of the
+/// document, and the classes that the parts name. Takes no memory.
 pub(crate) fn early_cause(meta: &Meta, top: TopMembers, found: &FoundParts) -> Option<DocFault>
     ensures { (ps : List Part) → Knows meta.now found.now ps → result ≡ early_meant meta.now (Some (new_top top.entry.format (items_view top.entry.roots.now))) ps }
 {
@@ -64,8 +64,8 @@ pub(crate) struct Noted {
     pub has_long: bool,
 }
 
-/// What is wrong with the targets of references, repeated values, the number of values, opposites, or the depth of a part: the first cause
-/// from `Reference` on that applies. Fails only if memory is refused.
+/// The first cause from `Reference` on that applies. These causes are about the targets of references, repeated values, the number of
+/// values, opposites, and the depth of a part. Fails only if memory is refused.
 pub(crate) fn sense_cause(
     source: &ReadContext,
     noted: Noted,

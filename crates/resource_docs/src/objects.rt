@@ -92,7 +92,8 @@ fn is_of_type<'t>(
     is_content(meta, feature, content)
 }
 
-/// Notes in `read` whether a content is of its feature's type, which `is_of_type` says, and whether the content has too many values.
+/// Notes in `read` whether a content has one of two faults: it is not of its feature's type (`is_of_type` is false), or it has too many
+/// values.
 fn note_flaws<'t>(
     read: &mut ReadContents,
     meta: &Meta,
@@ -132,7 +133,8 @@ fn add_feature(
     }
 }
 
-/// How many members are still to be found after one more feature was looked for; `left` members were to be found before.
+/// How many members are still to be found after one more feature was looked for. Before, `left` members were to be found; `is_found` says
+/// whether the member of this feature was found.
 fn left_after(left: usize, is_found: bool) -> usize
     requires { 0 < left }
     ensures { left ≡ result + (if is_found then 1 else 0) }
@@ -140,8 +142,8 @@ fn left_after(left: usize, is_found: bool) -> usize
     if is_found { left - 1 } else { left }
 }
 
-/// Reads the contents of the features of a class. Also returns whether each member is known to be the content of one of these features; if
-/// a key comes twice, this is not known.
+/// Reads the contents of the features of a class. Also returns whether each member is known to be the content of one of these features. If
+/// a key comes twice, this is not known, and the returned value is false.
 fn read_features(
     source: &ReadContext,
     number: u32,
@@ -169,8 +171,9 @@ fn read_features(
     Ok((read, left == 0))
 }
 
-/// Reads the contents of the object of a part. Also returns whether each member is known to be readable: the key of the member is the name
-/// of a feature of the class, and the feature is no container reference (`is_readable`). The value is true also if the class is unknown.
+/// Reads the contents of the object of a part. Also returns whether each member is known to be readable (`is_readable`). A member is
+/// readable if its key is the name of a feature of the class, and this feature is no container reference. If the class is unknown, the
+/// returned value is true.
 fn read_contents(source: &ReadContext, part: &FoundPart) -> Result<(ReadContents, bool), AllocError>
     ensures all { IfOk result (λ r. r.1 ≡ true → has_other_member source.now.meta.now (part_seen part.now) ≡ false) }
     ensures value { IfOk result (λ r. (ps : List Part) (p : Part) → Knows source.now.meta.now source.now.found.now ps → part_seen part.now ≡ seen_part source.now.meta.now ps p
@@ -217,7 +220,7 @@ fn add_object(
 }
 
 /// Reads the objects of the parts that were found, in loading order. Also returns whether each member of each object is known to be
-/// readable: whether `read_contents` returns true for each object. Fails only if memory is refused.
+/// readable: whether `read_contents` returns true for each object. Fails only if memory is refused, or if a list has more than 2^32 values.
 pub(crate) fn read_objects(source: &ReadContext) -> Result<(ReadObjects, bool), AllocError>
     ensures all { IfOk result (λ r. (ps : List Part) → Knows source.now.meta.now source.now.found.now ps → r.1 ≡ true → of_written (other_key source.now.meta.now) ps ≡ false) }
     ensures value { IfOk result (λ r. (ps : List Part) → Knows source.now.meta.now source.now.found.now ps → r.0 ≡ objects_so_far source.now.meta.now (base_of source.now.uri.now) ps ps) }

@@ -29,7 +29,7 @@ use std::alloc::Global;
 /// The greatest depth of nested arrays and objects in JSON that is read.
 const NESTING: usize = 127;
 
-/// The document whose objects were read, or the first cause from `Value` on that applies; `has_first_format` says whether the document has
+/// The document whose objects were read, or the first cause that applies, from `Value` on. `has_first_format` says whether the document has
 /// the first format.
 fn read_rest(
     source: &ReadContext,
@@ -76,8 +76,8 @@ fn has_other_member(source: &ReadContext, is_all: bool) -> bool
     !is_all && has_unknown_feature(source.meta, source.found)
 }
 
-/// Reads the document whose parts were found and have the right shape and classes; `has_first_format` says whether the document has the
-/// first format.
+/// Reads the document whose parts were found, and to which none of the causes `Layout`, `Format` and `Class` applies; `has_first_format`
+/// says whether the document has the first format.
 fn read_found(source: &ReadContext, has_first_format: bool, roots: &[Json]) -> Result<Doc, Refused>
     ensures { (d : Data) → Knows source.now.meta.now source.now.found.now (parts source.now.meta.now d) → has_first_format ≡ option_map_or first_meant (top_meant d) false
         → root_parts d ≡ roots_from (map view roots.now)
@@ -151,19 +151,20 @@ pub fn read_doc_text(alloc: Global, meta: &Meta, uri: &str, text: &str) -> Resul
 /// Reads the bytes of a document of the resource with the URI `uri`. Returns the objects and roots of the document, or else `Document` with
 /// the first cause of this list that applies:
 ///
-/// - `Syntax` if the bytes are no JSON in UTF-8, or if the JSON has more than 127 levels;
+/// - `Syntax` if the bytes are no JSON in UTF-8, if the JSON has more than 127 levels, or if a number is too large for a float;
 /// - `Layout` if the value is not laid out as a document, or if a root, or a JSON object under a containment, is not laid out as an object:
 ///   a key is missing, has a value of a wrong kind, or is not listed in `docs/DOCUMENTS.md`;
 /// - `Format` if the format of the document is neither 1 nor 2;
 /// - `Class` if an object names a class that the metamodel does not have, or an abstract class;
 /// - `Feature` if a key is no feature of the object's class, or is a container reference;
 /// - `Value` if the content of a feature is not of the feature's type, or a text has more than 65,535 bytes;
-/// - `Reference` if the text of a reference is no fragment and no URI with a fragment, or if it leads into the document itself, but to no
-///   object that conforms to the type of the reference;
+/// - `Reference` if the text of a reference is neither a fragment, with or without a `#` before it, nor a URI or relative reference with a
+///   fragment; if this URI or relative reference, joined with `uri`, gives no URI of http or https; or if the text leads into the document
+///   itself, but to no object that conforms to the type of the reference;
 /// - `Duplicate` if a unique list repeats a value;
 /// - `Bound` if a list has more values than its upper bound, or more than 1,000,000, or if there are more than 1,000,000 roots;
-/// - `OneSided` if an object a names an object b under a feature that has an opposite and is no containment, and b does not name a under
-///   the opposite;
+/// - `OneSided` if an object names a second object under a feature that has an opposite and is no containment, and the second object does
+///   not name the first one under the opposite;
 /// - `Cross` if the format of the document is 1, and a reference with an opposite leads to a different resource;
 /// - `Depth` if an object is below level 40.
 ///

@@ -60,7 +60,7 @@ fn led_to(meta: &Meta, found: &FoundParts, class: ClassNo, target: Referent) -> 
 }
 
 /// The value of a reference to a class: an object of the document that conforms to the class, or a proxy; `None` if the JSON value is no
-/// text, or the text leads nowhere or to an object of a wrong class. Fails only if memory is refused.
+/// text, if the text leads nowhere, or if it leads to an object of a wrong class. Fails only if memory is refused.
 pub(crate) fn reference_value(
     source: &ReadContext,
     class: ClassNo,

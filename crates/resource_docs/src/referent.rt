@@ -7,7 +7,7 @@ use mm_types::Text;
 use std::alloc::{AllocError, Global};
 use web_uris::{Path, UriFault, address_of, joined, parse, split_address};
 
-/// What the text of a reference leads to.
+/// What the text of a reference leads to. Whether an object is there is not tested.
 #[derive(Debug, Drop)]
 pub enum Referent {
     /// An object of the document itself, by its path.
@@ -52,8 +52,8 @@ fn target_in(
     Ok(Referent::Elsewhere(text))
 }
 
-/// What a reference with a `#` leads to, from the part before the `#` and the text after the `#`. `None` if that text is no fragment, or if
-/// the part is not empty and stands for no URI.
+/// What a reference with a `#` leads to. `part` is the text before the `#`, and `rest` the text after it. `None` if `rest` is no fragment,
+/// or if `part` is not empty and stands for no URI.
 fn address_target(
     alloc: Global,
     uri: &str,
@@ -72,8 +72,9 @@ fn address_target(
     }
 }
 
-/// What the text of a reference leads to, in the document of the resource with a URI; `None` if the text is no fragment and no URI with a
-/// fragment. Fails only if memory is refused.
+/// What the text of a reference leads to, in the document of the resource with the URI `uri`. `None` if the text is neither a fragment,
+/// with or without a `#` before it, nor a URI or relative reference with a fragment. Also `None` if joining the URI or relative reference
+/// with `uri` gives no URI. Fails only if memory is refused.
 pub(crate) fn target_of(
     alloc: Global,
     uri: &str,

@@ -24,7 +24,8 @@ pub(crate) struct ReadValues {
     pub is_lost: bool,
 }
 
-/// The object to which a step leads from the part with the number `number`. `likely` is a guess at the number of that object.
+/// The object to which the step with the name `name` and the index `index` leads from the part with the number `number`; `None` if the step
+/// leads to no part. `likely` is a guess at the number of that object.
 fn part_at(
     source: &ReadContext,
     number: u32,
@@ -186,8 +187,8 @@ fn read_values(
     Ok(read)
 }
 
-/// What was read under a single feature. If there is no value and the feature is a reference and no containment (`is_link`), the reference
-/// leads nowhere or to an object of a wrong class.
+/// What was read under a single feature. `is_link` says whether the feature is a reference and no containment. If `is_link` is true and
+/// there is no value, the reference leads nowhere or to an object of a wrong class.
 fn one_read(value: Option<Value>, is_link: bool) -> ReadValues
     ensures value { result ≡ new_values (option_to_list value) (is_link && not (is_some value)) }
     ensures proxy { IfSome value IsProxyValue → All IsProxyValue result.values }

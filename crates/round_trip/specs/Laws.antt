@@ -13,13 +13,13 @@ use Rattle.resource_docs.specs.Texts.{base_of}
 use Rattle.round_trip.specs.Copied.{copied_document}
 use Rattle.round_trip.specs.Readable.{IsReadable}
 
--- if the model is legal, the URIs in it are normalised and a resource is readable, the JSON value of that resource is read as that resource
+-- in a legal model with normalised URIs: if a resource is readable, the JSON value of its document is read as the resource
 abbrev pub ReadsBack : Model → Type 0
 ReadsBack s =
     IsLegal s → HasSteadyTexts s → (k : ResourceNo) (uri : List ℕ) → IsReadable (reading s) k uri
     → reads s.metamodel (base_of uri) (document (reading s) k) ≡ Ok (copied_document (reading s) k)
 
--- under the same conditions the text of a resource, as a save returns it, is read as that resource
+-- under the same conditions: the text that a save of the resource returns is read as the resource
 abbrev pub ReadsTextBack : Model → Type 0
 ReadsTextBack s =
     IsLegal s → HasSteadyTexts s → (k : ResourceNo) (uri text : List ℕ) → IsReadable (reading s) k uri → IsReadAs (reading s) k text → is_utf8 text ≡ true

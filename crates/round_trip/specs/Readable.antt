@@ -29,7 +29,7 @@ pub record Refers (r : Reading) (k : ResourceNo) (o : ObjectNo) : Type 0 where
   pub written : Contains (reference_features r object) feature
   pub there : Contains (targets_under r object feature) o
 
--- no end of the resource has both an object of another resource and a proxy with that object's address
+-- no end of an object of the resource has both an object of a different resource and a proxy with the address of that object
 abbrev pub HasNoneTwice : Reading → ResourceNo → Type 0
 HasNoneTwice r k =
     (o : ObjectNo) (f : FeatureNo) (b : ObjectNo) (t : List ℕ) → Contains (objects_in r k) o → Contains (r.values (at_end (node.Object o) f)) (value.Object b)

@@ -17,8 +17,8 @@ abbrev pub target_of : Reading → ResourceNo → ObjectNo → Referent
 target_of r k o = if is_in r k o then Here (unwrap_or (path_of r o) (new_path 0 [])) else Elsewhere (unwrap_or (address r o) [])
 
 -- Texts are read in the resource with the URI `uri`. The text by which resource k refers to an object leads to that object, if the object
--- is in some resource. The text t of a proxy leads to the address t, if the URI in t is not `uri`. Also, no two objects have the same
--- address.
+-- is in some resource. The text t of a proxy with a normalised URI leads to the address t, if this URI is not `uri`. Also, no two objects
+-- have the same address.
 pub record LeadsBack (r : Reading) (k : ResourceNo) (uri : List ℕ) : Type 0 where
   pub object : (o : ObjectNo) (j : ResourceNo) → resource_of r.above o ≡ Some j → target (base_of uri) (reference_text r k o) ≡ Some (target_of r k o)
   pub proxy : (t : List ℕ) → IsSteadyProxy t → (uri_part t ≡ uri → ⊥) → target (base_of uri) t ≡ Some (Elsewhere t)

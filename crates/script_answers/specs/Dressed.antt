@@ -16,7 +16,7 @@ plain_dress = record { echo = false; number = false; stop = false }
 abbrev pub each_behind : List ℕ → List ℕ → List ℕ
 each_behind front text = flat_map (λ l. front ++ l ++ NEWLINE ∷ []) (lines text)
 
--- the lines of an answer, each after the number k of the script line that is answered
+-- the lines of an answer to the script line with the number k; before each line of the answer come k, a colon and a space
 abbrev pub numbered_lines : ℕ → List ℕ → List ℕ
 numbered_lines k answer = each_behind (decimal k ++ codes ": ") answer
 

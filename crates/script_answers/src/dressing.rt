@@ -53,7 +53,7 @@ fn write_numbered<W: Write>(writer: &mut W, number: u64, answer: &[u8]) -> Resul
     Ok(())
 }
 
-/// Writes the answer of a line of the script, with the number of the line if answers are numbered.
+/// Writes the answer of a line of the script. If answers are numbered, `number` comes before each line of the answer.
 fn write_answer<W: Write>(
     writer: &mut W,
     dress: Dress,

@@ -112,7 +112,7 @@ unwatch_form a n = option_map (λ p. asks.Unwatch p.0 p.1) (option_zip (adapter_
 abbrev pub lone_verb_form : List ℕ → Option Form
 lone_verb_form verb = if bytes_eq verb (codes "resolveall") then Some asks.ResolveAll else None
 
--- the question that a verb asks about an object
+-- the question that a verb asks about an object; none for any other verb
 abbrev pub object_read : List ℕ → Option ObjectRead
 object_read verb =
     if bytes_eq verb (codes "class") then Some Class

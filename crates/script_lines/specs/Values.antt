@@ -81,7 +81,7 @@ value_in w = if bytes_eq w (codes "null") then Some written.Null
     else if bytes_eq w (codes "false") then Some (written.Bool false)
     else other_value_in w
 
--- `null`, `true` or `false`: a value that is a word without a mark, and no number
+-- the value of the word `null`, `true` or `false`; none for any other word
 abbrev pub word_value_in : List ℕ → Option WrittenValue
 word_value_in w = if bytes_eq w (codes "null") then Some written.Null
     else if bytes_eq w (codes "true") then Some (written.Bool true)

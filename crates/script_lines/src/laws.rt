@@ -12,8 +12,8 @@ ghost use Rattle.mm_types.specs.declared.numbers.ResourceNo.{ResourceNo};
 
 use crate::grammar::{NEWLINE, SPACE};
 
-/// A script is its lines, with a newline after each but perhaps the last, and no line has a newline in it. So no byte
-/// of a script is lost, and every newline ends a line.
+/// A script is its lines, with a newline after each but perhaps the last, and no line has a newline in it. So no byte of a script is lost,
+/// and every newline ends a line.
 pub fn a_script_is_its_lines()
     ensures whole { (bytes : List ℕ) → (with_newlines (lines bytes) ≡ bytes) ⊎ (with_newlines (lines bytes) ≡ bytes ++ NEWLINE ∷ []) }
     ensures cut { (bytes : List ℕ) → list_all has_no_newline (lines bytes) ≡ true }

@@ -1,5 +1,4 @@
-//! `load` lines. The text of a document is written in the line as it is, up to the end of the line,
-//! and is not cut into words.
+//! `load` lines. The text of a document is written in the line as it is, up to the end of the line, and is not cut into words.
 ghost use Rattle.std.specs.Prelude.{◌≡◌, true, false, IfOk, IfSome, MatchOption, option_map};
 ghost use Rattle.script_lines.specs.Words.{after_spaces, is_space};
 ghost use Rattle.script_lines.specs.Forms.{behind_verb, is_load, load_form, may_load as the_may_load, text_line, verb_in};
@@ -30,7 +29,7 @@ fn may_load(line: &str) -> bool
     }
 }
 
-/// The verb of a line, and the text after the space that follows the verb.
+/// The verb of a line, and the text after the space that follows the verb; this text is empty if there is no such space.
 fn verb_of(line: &str) -> (&str, &str)
     ensures verb { result.0.now ≡ verb_in line.now }
     ensures rest { result.1.now ≡ behind_verb line.now }
@@ -74,7 +73,8 @@ pub fn load_parts(line: &str) -> Option<(ResourceNo, &str)>
     }
 }
 
-/// `load RES REST`, from the text after the verb. Fails only if memory is refused for the text.
+/// The form of `load RES REST`, from the text after the verb; `None` if there is no space after RES, or RES is no resource. Fails only if
+/// memory is refused for the text.
 pub fn load_of<'a>(alloc: Global, rest: &str) -> Result<Option<Form<'a>>, AllocError>
     ensures { IfOk result (λ o. o ≡ load_form (after_spaces rest.now)) }
 {

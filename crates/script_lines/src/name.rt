@@ -49,7 +49,7 @@ fn name_len_of(bytes: &[u8]) -> usize
 
 impl<'a> Name<'a> {
     /// Reads a name from the bytes before the first space of a text. Returns the name, and the text after that space. If the text has no
-    /// space, the name is read from the whole text, and the text after it is empty. `None` if these bytes are no name.
+    /// space, the name is read from the whole text, and the returned text is empty. `None` if the bytes are no name.
     pub fn before_space(text: &'a str) -> Option<(Self, &'a str)>
         ensures name { option_map (λ p. p.0) result ≡ name_in (before_first is_space text.now) }
         ensures rest { IfSome result (λ p. p.1.now ≡ after_first is_space text.now) }

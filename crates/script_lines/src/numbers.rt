@@ -79,7 +79,7 @@ fn long_number_of(text: &str) -> Option<u32>
     integers::natural_of(cut_at_space(text).0)
 }
 
-/// The text after the first space of a text, which is empty if there is no space. The function is never inlined, like `long_number_of`.
+/// The text after the first space of a text; empty if there is no space. The function is never inlined, like `long_number_of`.
 #[inline(never)]
 fn behind_space(text: &str) -> &str
     ensures { result.now ≡ after_first is_space text.now }
@@ -88,7 +88,7 @@ fn behind_space(text: &str) -> &str
 }
 
 /// Reads a 32-bit number from the bytes before the first space of a text. Returns the number, and the text after that space. If the text
-/// has no space, the number is read from the whole text, and the text after it is empty. `None` if these bytes write no such number.
+/// has no space, the number is read from the whole text, and the returned text is empty. `None` if the bytes write no such number.
 #[inline(always)]
 pub fn number_before_space(text: &str) -> Option<(u32, &str)>
     ensures number { option_map (λ p. p.0) result ≡ natural_number (before_first is_space text.now) }

@@ -236,7 +236,7 @@ fn alone_of<'a>(verb: &str) -> Option<Form<'a>>
     }
 }
 
-/// The question that a verb asks about an object.
+/// The question that a verb asks about an object; `None` for any other verb.
 fn object_read_of(verb: &str) -> Option<ObjectRead>
     ensures { result ≡ object_read verb.now }
 {

@@ -20,7 +20,7 @@ pub enum Source<'a> {
     Bytes(&'a [u8]),
 }
 
-/// The text before the first newline, and the text after that newline, which is empty if there is no newline.
+/// The text before the first newline, and the text after that newline. If there is no newline, the second text is empty.
 fn cut_at_newline(text: &str) -> (&str, &str)
     ensures before { result.0.now ≡ before_first is_newline text.now }
     ensures after { result.1.now ≡ after_first is_newline text.now }

@@ -156,8 +156,8 @@ pub fn value_of(alloc: Global, word: &str) -> Result<Option<WrittenValue<'_>>, A
     other_value_of(alloc, word)
 }
 
-/// A node, the name of a feature, and a value for this feature, as three words give them: `#3 pages 100`. It is not checked whether the
-/// node has such a feature, or whether the value fits it.
+/// A node, the name of a feature, and a value for this feature, as three words give them: `#3 pages 100`. The call does not check whether
+/// the node has a feature of this name, or whether the value fits the feature.
 pub fn feature_value_of<'a>(
     alloc: Global,
     node: &str,

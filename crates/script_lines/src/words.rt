@@ -48,8 +48,8 @@ fn quoted_len_of(bytes: &[u8]) -> usize
     }
 }
 
-/// How many bytes of a word follow the quotation mark with which the word begins, if the word may have escapes; `bytes` are the bytes after
-/// that mark.
+/// How many bytes a word has after the quotation mark with which it begins. `bytes` has the bytes after this mark. The word may have
+/// escapes.
 fn escaped_len_of(bytes: &[u8]) -> usize
     ensures value { result ≡ quoted_len false bytes.now }
     ensures within { result ≤ length bytes.now }

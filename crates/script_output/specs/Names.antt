@@ -1,4 +1,4 @@
--- The names of features, enumerations and literals, as they are printed.
+-- The names of features and of literals, as they are printed, and the enumeration that is the type of a feature.
 use Rattle.std.specs.Prelude.{ℕ, List, [], Option, Some, None, option_and_then, codes}
 use Rattle.std.specs.Option.{option_map_or}
 use Rattle.mm_types.specs.Lookups as lookups

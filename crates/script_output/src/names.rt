@@ -1,4 +1,4 @@
-//! The names of features, enumerations and literals, as they are printed.
+//! The names of features and of literals, as they are printed, and the enumeration that is the type of a feature.
 ghost use Rattle.std.specs.Prelude.{◌≡◌};
 ghost use Rattle.script_output.specs.Names as n;
 
@@ -15,7 +15,7 @@ pub fn feature_name(meta: &Meta, feature: FeatureNo) -> &str
     }
 }
 
-/// The enumeration that is a feature's type, by its index; `None` if the feature has a different type, or if no feature has the number.
+/// The enumeration that is a feature's type, by its index; `None` if the type is no enumeration, or if no feature has the number.
 pub fn enum_of(meta: &Meta, feature: FeatureNo) -> Option<u32>
     ensures { result ≡ n.enum_of meta.now feature }
 {

@@ -295,7 +295,7 @@ fn is_escaped(byte: u8) -> bool
     byte == b'"' || byte == b'\\' || byte < 32
 }
 
-/// Whether some byte of a text is escaped in a JSON string. The loop does not stop at the first such byte, so that it can be vectorised.
+/// Whether some byte of a text is escaped in a JSON string. The loop does not stop at the first escaped byte, so that it can be vectorised.
 fn has_escaped(bytes: &[u8]) -> bool
     ensures { result ≡ list_any is_stop bytes.now }
 {

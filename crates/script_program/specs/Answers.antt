@@ -28,11 +28,11 @@ feature_of (command.At e a) = e.feature
 feature_of (command.Read (read.At e q)) = e.feature
 feature_of _ = record { 0 = NOTHING }
 
--- how many proxies were resolved, and how many are left
+-- the text that says how many proxies were resolved, and how many are left
 abbrev pub resolved_text : ℕ → ℕ → List ℕ
 resolved_text done left = codes "resolved " ++ (decimal done ++ (codes " left " ++ decimal left))
 
--- the text of an answer to a command that names the feature f
+-- the text of an answer to a command; f is `feature_of` of the command
 abbrev pub answer_text : Metamodel → FeatureNo → Answer → List ℕ
 answer_text m f answer.Done = codes "ok"
 answer_text m f (answer.Object o) = node_text (node.Object o)
@@ -58,7 +58,7 @@ answer_text m f (answer.Snapshot xs) = codes "snapshot " ++ decimal (length xs)
 abbrev pub answer_line : Metamodel → FeatureNo → Answer → List ℕ
 answer_line m f a = answer_text m f a ++ NEWLINE ∷ []
 
--- a line for each notification that an adapter got
+-- a line for each notification of a reply, with the number of the adapter that got the notification
 abbrev pub told_text : Metamodel → List (AdapterNo × Notice) → List ℕ
 told_text m told = flat_map (λ t. notice_text m t.0 t.1 ++ NEWLINE ∷ []) told
 
@@ -82,6 +82,6 @@ outcome_text m f (Err e) = refusal_line e.refused
 abbrev pub unheard_text : Metamodel → FeatureNo → Answer → List ℕ
 unheard_text m f a = outcome_text m f (Ok (record { answer = a; told = []; released = [] }))
 
--- the line that a read of a feature prints
+-- the line that a read of one value of a feature prints
 abbrev pub read_text : Metamodel → FeatureNo → Value → List ℕ
 read_text m f v = unheard_text m f (answer.Value v)

@@ -75,6 +75,6 @@ pub record PrintsDressedFront (d : Dress) (s : Session) (Left : Session → Type
 abbrev pub PrintsInputDressed : Dress → Option (List ℕ) → Session → (Session → Type 0) → Option (List ℕ) → Option (List ℕ) → Summary → Type 0
 PrintsInputDressed d input s Left old new summary = IfSome input (λ bytes. (length bytes ≤ INPUT_BYTES) × PrintsDressed d s Left old new bytes summary)
 
--- If the input is known, `PrintsDressedFront` is true of it: its first lines were run, and a prefix of their answers was written.
+-- If the input is known, its first lines were run, and a prefix of their answers was written (`PrintsDressedFront`).
 abbrev pub PrintsInputDressedFront : Dress → Option (List ℕ) → Session → (Session → Type 0) → Option (List ℕ) → Option (List ℕ) → Type 0
 PrintsInputDressedFront d input s Left old new = IfSome input (λ bytes. PrintsDressedFront d s Left old new bytes)

@@ -36,8 +36,8 @@ use Rattle.script_program.specs.declared.request.Request.TheVariants as request
 abbrev pub class_number : Metamodel → List ℕ → ClassNo
 class_number m name = unwrap_or (lookups.class_by_name m name) (record { 0 = NOTHING })
 
--- the number of the feature that has a name: a feature of the object's class, or `contents` of a resource; NOTHING if there is no such
--- feature
+-- the number of the feature called `name`: a feature of the object's class, or `contents` of a resource; NOTHING if the node has no feature
+-- with this name
 abbrev pub feature_number : State → Node → List ℕ → FeatureNo
 feature_number s (node.Object o) name =
     unwrap_or (option_and_then (λ c. lookups.feature_by_name s.model.metamodel c name) ((reads s).class o)) (record { 0 = NOTHING })

@@ -68,7 +68,7 @@ journal_printed l p = record { text = p.text; turn = journal_turn (line_asks (fo
 abbrev pub session_of : {L A H : Type 0} → Journaled L A H → Session
 session_of j = session j.interpreter.repository j.interpreter.pool
 
--- how many lines an interpreter has run, and whether one of them was refused, or bad
+-- how many lines an interpreter has run; and `has_fault`, whether one of them was refused or bad
 abbrev pub lines_run : {L A H : Type 0} → Journaled L A H → ℕ
 lines_run j = j.lines
 
@@ -91,7 +91,8 @@ abbrev pub model_if_done : Outcome → Model → Option Model
 model_if_done (Ok r) m = Some m
 model_if_done (Err f) m = None
 
--- the model after a command on a repository without adapters, if the command is done
+-- the model after the command of a request is executed on a repository without adapters; none if the command is refused, or if the request
+-- executes no command
 abbrev pub model_after_request : Model → Request View → Option Model
 model_after_request m (request.Execute c) = let one = step (state_of_model m) c in model_if_done one.outcome one.after.model
 model_after_request m _ = None
@@ -100,12 +101,13 @@ abbrev pub model_after_line : Model → Line → Option Model
 model_after_line m (line.Form f) = if asks_change f then model_after_request m (bind (session (state_of_model m) []) f) else None
 model_after_line m _ = None
 
--- the model after lines that are run in turn on a repository without adapters, if each line asks for a change and is done
+-- the model after lines that are run in turn on a repository without adapters; none if a line asks for no change or is refused
 abbrev pub model_after_lines : Model → List (List ℕ) → Option Model
 model_after_lines m [] = Some m
 model_after_lines m (l ∷ ls) = option_and_then (λ n. model_after_lines n ls) (model_after_line m (form l))
 
--- the model after the lines of a journal, run from the empty repository on; the first line, its head, is not run
+-- the model after the lines of a journal are run, from the empty repository on. The first line is the head, which is not run. None if there
+-- is no head, or if a line asks for no change or is refused
 abbrev pub model_of : Metamodel → List (List ℕ) → Option Model
 model_of m [] = None
 model_of m (head ∷ ls) = model_after_lines (empty_state m).model ls
@@ -121,8 +123,8 @@ pub record EndsJournaled (m : Metamodel) (s : Session) (ls : List (List ℕ)) (o
   pub written : Appends old new (live_text printed)
   pub recalled : model_of m kept ≡ Some t.state.model
 
--- A run stopped for a fault. The answers to the first lines were written, but after a failed write only a prefix of them; the next lines
--- were run but not answered. A file that a crash leaves is a journal of the model after the first lines, or after the next lines too.
+-- A run stopped for a fault. The answers to the first lines were written, or only a prefix of these answers if a write failed. The next
+-- lines were run but not answered. A file that a crash leaves is a journal of the model after the first lines, or after the next lines too.
 pub record StopsJournaled (m : Metamodel) (fault : RunFault) (s : Session) (ls : List (List ℕ)) (old new : Option (List ℕ)) (may_leave : List ℕ → Type 0) : Type 0 where
   pub first : List (List ℕ)
   pub next : List (List ℕ)
@@ -173,8 +175,9 @@ pub record LeavesKept (m : Metamodel) (head file : List ℕ) (ls : List (List �
   pub had : model_of m (begun_lines head (recovered_lines file)) ≡ Some start.state.model
   pub leaves : LeavesJournaled m start ls left
 
--- what a crash at any moment of a run leaves: the lines of the file, or the head alone if the file had no line; or else, if the input is
--- known, a journal of the model that the first lines of the input left, however many these are
+-- `left` is a file that a crash at any moment of a run may leave. It has the lines of `file`, or only the head if `file` has no line; or it
+-- is a journal of the model that the first lines of the input left, however many these are. Nothing is said of `left` if the input is not
+-- known
 abbrev pub LeavesKeptIn : Metamodel → List ℕ → List ℕ → Option (List ℕ) → List ℕ → Type 0
 LeavesKeptIn m head file input left = IsBegunOrNot head (recovered_lines file) left ⊎ IfSome input (λ bytes. LeavesKept m head file (lines bytes) left)
 

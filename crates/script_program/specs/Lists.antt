@@ -24,10 +24,11 @@ abbrev pub value_printed : Metamodel → FeatureNo → Result Value Refused → 
 value_printed m f (Ok v) = record { text = read_text m f v; turn = turned.Done }
 value_printed m f (Err r) = refused_printed r
 
--- what is printed for a read of the length: how many values the list of a named feature of a node has, or the refusal
+-- what is printed for a read of the length: the length of the list that the node n has under the feature called `name`, or the refusal
 abbrev pub list_len_printed : State → Node → List ℕ → Printed
 list_len_printed s n name = len_printed (list_len (reads s) (named_end s n name))
 
--- what is printed for a read of one value: the value at an index of the list of a named feature of a node, or the refusal
+-- what is printed for a read of one value: the value at index i of the list that the node n has under the feature called `name`, or the
+-- refusal
 abbrev pub list_value_printed : State → Node → List ℕ → ℕ → Printed
 list_value_printed s n name i = value_printed s.model.metamodel (feature_number s n name) (list_value (reads s) (named_end s n name) i)

@@ -39,12 +39,11 @@ pub record AnswersLiveFront (line : List ℕ) (s : Session) (old new : Option (L
   pub ran : RunsLine s (form line) printed after
   pub written : AppendsFront old new (live_answer printed)
 
--- All lines of a script were run, their answers were written, each with an empty line after it, and the counts are the counts of these
--- lines.
+-- All lines of a script were run. Their answers were written, each with an empty line after it. The summary has the counts of these lines.
 abbrev pub PrintsLive : Session → Option (List ℕ) → Option (List ℕ) → List ℕ → Summary → Type 0
 PrintsLive = PrintsAs live_text
 
--- The first lines of a script were run, and a prefix of their answers, each with an empty line after it, was written.
+-- The first lines of a script were run. The text of their answers has an empty line after each answer; a prefix of this text was written.
 abbrev pub PrintsLiveFront : Session → Option (List ℕ) → Option (List ℕ) → List ℕ → Type 0
 PrintsLiveFront = PrintsFrontAs live_text
 

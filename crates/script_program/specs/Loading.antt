@@ -25,8 +25,8 @@ abbrev pub LoadsIfMade : Outcome → State → List ℕ → Outcome → State �
 LoadsIfMade (Ok r) s document o t = LoadsInto (made_resource r.answer) s document o t
 LoadsIfMade (Err f) s document o t = (o ≡ Err f) × (t ≡ s)
 
--- Two commands were given: the first makes a resource with a given URI, and the second loads a document into this resource. The second
--- command was given only if the first command was done.
+-- A command was executed that makes a resource with a given URI. If it was done, a second command was executed, which loads a document into
+-- this resource. `o` is the outcome of the last command that was executed, and `t` is the state after it.
 pub record MakesAndLoads (s : State) (uri document : List ℕ) (o : Outcome) (t : State) : Type 0 where
   pub made : Outcome
   pub between : State

@@ -48,12 +48,12 @@ run_line lost s (line.Form f) = run_request lost s (bind s f)
 abbrev pub is_in : List ℕ → ℕ → Bool
 is_in m k = list_any (λ j. j == k) m
 
--- the output of lines of which the first has the number k, if the lines whose numbers are in m are lost
+-- the output of lines whose numbers go up from k, if exactly the lines with numbers in m are lost
 unfoldable pub printed_from : List ℕ → ℕ → Session → List (List ℕ) → List Printed
 printed_from m k s [] = []
 printed_from m k s (l ∷ ls) = let one = run_line (is_in m k) s (form l) in one.printed ∷ printed_from m (suc k) one.after ls
 
--- what a script prints, line by line, from a session on; its lines are numbered from 0
+-- what a script prints, line by line, from a session on; `lost` has the numbers of the lines that are lost, counted from 0
 abbrev pub script : Session → List ℕ → List ℕ → List Printed
 script s bytes lost = printed_from lost 0 s (lines bytes)
 

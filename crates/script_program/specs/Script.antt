@@ -67,7 +67,7 @@ pub record RunsCommand (s : Session) (c : Command View) (p : Printed) (t : Sessi
   pub pool : t.pool ≡ pool_after s.pool c outcome
   pub printed : p ≡ command_printed s.state.model.metamodel c outcome
 
--- the request of a form was done
+-- a request was run: the session before, the request, its output, and the session after
 abbrev pub RunsRequest : Session → Request View → Printed → Session → Type 0
 RunsRequest s (request.Execute c) p t = RunsCommand s c p t
 RunsRequest s (request.Seen number) p t = (p ≡ seen_printed s.state number) × (t ≡ s)
@@ -86,7 +86,7 @@ RunsLines s [] (p ∷ ps) t = ⊥
 RunsLines s (l ∷ ls) [] t = ⊥
 RunsLines s (l ∷ ls) (p ∷ ps) t = (u : Session) × RunsLine s (form l) p u × RunsLines u ls ps t
 
--- All lines of a script were run, the text that `shown` gives for their output was written, and the counts are the counts of these lines.
+-- All lines of a script were run, the text that `shown` gives for their output was written, and the summary has the counts of these lines.
 pub record PrintsAs (shown : List Printed → List ℕ) (s : Session) (old new : Option (List ℕ)) (bytes : List ℕ) (summary : Summary) : Type 0 where
   pub printed : List Printed
   pub after : Session
@@ -104,7 +104,7 @@ pub record PrintsFrontAs (shown : List Printed → List ℕ) (s : Session) (old 
   pub ran : RunsLines s first printed after
   pub written : AppendsFront old new (shown printed)
 
--- All lines of a script were run, their output was written, and the counts are the counts of these lines.
+-- All lines of a script were run, their output was written, and the summary has the counts of these lines.
 abbrev pub Prints : Session → Option (List ℕ) → Option (List ℕ) → List ℕ → Summary → Type 0
 Prints = PrintsAs texts
 

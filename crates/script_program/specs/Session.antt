@@ -44,8 +44,8 @@ pool_after pool c (Err f) = pool
 abbrev pub brought_no : Command View → Option AdapterNo
 brought_no c = option_map (λ a. a.no) (slice_get (attached_adapters c) 0)
 
--- the pool after the adapters of an outcome are put back: the released adapters or, after a failure, the adapter that is given back, under
--- the given number
+-- the pool after the adapters of an outcome are put back: after a success the released adapters; after a failure the adapter that the
+-- command could not attach, under `number`
 abbrev pub pool_after_return : Pool → Option AdapterNo → Outcome → Pool
 pool_after_return pool number (Ok r) = fold with_box pool r.released
 pool_after_return pool number (Err f) = option_map_or (with_box pool) (option_zip number f.given_back) pool

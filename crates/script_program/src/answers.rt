@@ -73,7 +73,7 @@ fn print_answer(
     }
 }
 
-/// Adds the line that a read of a feature prints; `None` stands for null.
+/// Adds the line that a read of one value of a feature prints; `None` stands for null.
 pub(crate) fn print_found(
     output: &mut Output,
     meta: &Meta,
@@ -113,7 +113,7 @@ pub(crate) fn print_refusal(output: &mut Output, refused: Refused) -> Result<(),
     output.line_end()
 }
 
-/// Adds a line for each notification that an adapter got.
+/// Adds a line for each notification in `told`, with the number of the adapter that got the notification.
 fn print_told(
     output: &mut Output,
     meta: &Meta,
@@ -153,7 +153,7 @@ fn print_notified<A: Adapter>(
     print_released(output, released)
 }
 
-/// Adds the lines that a command prints when it is done; `feature` is the feature that the command names.
+/// Adds the lines that a command prints when it is done; `feature` is `feature_of` of the command.
 pub(crate) fn print_reply<A: Adapter>(
     output: &mut Output,
     meta: &Meta,
@@ -172,7 +172,7 @@ pub(crate) fn print_reply<A: Adapter>(
     )
 }
 
-/// Adds the lines that a command prints; `feature` is the feature that the command names.
+/// Adds the lines that a command prints; `feature` is `feature_of` of the command.
 pub(crate) fn print_outcome<A: Adapter>(
     output: &mut Output,
     meta: &Meta,

@@ -1,6 +1,6 @@
-//! Runs lines of the most frequent forms. Most functions here call the repository directly, since binding a line to a command would take
-//! longer than the change itself. Taking a reply apart would take longer too. So a creation has no reply, and most sets and additions that
-//! notify no adapter have none.
+//! Runs lines of the most frequent forms. Most functions here call the repository directly: binding a line to a command would take longer
+//! than the change itself, and so would taking a reply apart. So a creation makes no reply. Most sets, and most additions to references,
+//! make no reply either if they notify no adapter.
 ghost use Rattle.std.specs.Prelude.{◌≡◌, Err, IfOk, MatchOption, None, Ok, OnErr, Some};
 ghost use Rattle.mm_types.specs.Resolved.{Metamodel};
 ghost use Rattle.mm_types.specs.declared.numbers.Node.TheVariants as node;
@@ -123,7 +123,8 @@ fn print_fragment(output: &mut Output, fragment: &Text) -> Result<Turn, AllocErr
     Ok(Turn::Done)
 }
 
-/// Reads the fragment of an object and prints it. The repository remembers the fragment. Fails only if memory is refused for the output.
+/// Reads the fragment of an object and prints it. The repository remembers the fragment, if there is memory for it. Fails only if memory is
+/// refused for the output.
 #[inline(never)]
 fn run_fragment<L: LinkStore, A: Adapter>(
     repository: &mut Repository<L, A>,
@@ -360,7 +361,7 @@ fn run_is_set<L: LinkStore, A: Adapter>(
     run_command(repository, pool, output, Command::Read(read))
 }
 
-/// Does an act at a feature of an object, or asks for the value of the feature or whether the feature is set, and prints the answer.
+/// Does `act` at a feature of an object, and prints the answer. An act changes the feature, or asks for its value or whether it is set.
 ///
 /// Fails only if memory is refused for a text that is the value of the line, or for the output.
 #[inline(always)]

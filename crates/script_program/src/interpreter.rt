@@ -68,7 +68,7 @@ impl<L: LinkStore, A: Adapter> Interpreter<L, A> {
         &self.repository
     }
 
-    /// What the last line printed, or the last call of `list_len`, `list_value` or `load`.
+    /// What the last call of `answer`, `list_len`, `list_value` or `load` printed; empty if there was no such call.
     pub fn text(&self) -> &[u8]
         ensures { result.now ≡ self.now.output }
     {

@@ -25,9 +25,9 @@ use std::io::{BufReader, Read, Write};
 /// further lines. Lines are put on the disk before each read that may wait, and when 65,536 bytes of answers or more are held back. Of the
 /// lines that are put on the disk together, a crash leaves all or none.
 ///
-/// Fails with `Read` if a read fails, with `TooLong` if a line has more than `INPUT_BYTES` bytes or the script more than
-/// `u64::MAX - 1` lines, with `Journal` if the disk fails or the journal is full, with `Write` if a write or a flush fails or a write
-/// takes no byte, and with `Memory` if memory is refused to the run itself.
+/// Fails with `Read` if a read fails; with `TooLong` if a line has more than `INPUT_BYTES` bytes, or if the script has more than `u64::MAX
+/// - 1` lines; with `Journal` if the disk fails, or if the journal is full; with `Write` if a write or a flush fails, or if a write takes
+/// no byte; and with `Memory` if memory is refused to the run itself.
 pub fn run_journal<R: Read, D: Disk, W: Write, L: LinkStore, A: Adapter, H: Listener>(
     alloc: Global,
     reader: &mut BufReader<R>,

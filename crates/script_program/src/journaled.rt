@@ -15,8 +15,8 @@ use script_answers::Turn;
 use script_lines::{FeatureForm, Form, Line, parse_line};
 use std::alloc::{AllocError, Global};
 
-/// An interpreter that returns for each line whether a journal has to keep the line: whether the line asks for a change of the model, and
-/// the change was done.
+/// An interpreter that returns for each line whether a journal has to keep the line. A journal keeps a line if the line asks for a change
+/// of the model, and the change was done.
 #[derive(Drop)]
 pub struct Journaled<L: LinkStore, A: Adapter, H: Listener> {
     alloc: Global,
@@ -75,7 +75,7 @@ fn turn_of(alloc: Global, line: &[u8], turn: Turn) -> Result<durable::JournalTur
     }
 }
 
-/// Calls a listener with the line that an interpreter ran last.
+/// Calls a listener with the line that an interpreter ran last, if the listener has to be called.
 fn tell<L: LinkStore, A: Adapter, H: Listener>(
     listener: &mut H,
     interpreter: &Interpreter<L, A>,

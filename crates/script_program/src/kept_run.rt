@@ -55,7 +55,8 @@ fn stopped_by(outcome: Result<(), RunFault>) -> Result<(), KeptFault>
     }
 }
 
-/// Runs the lines of a file again, and opens the journal in that file.
+/// Runs the lines of a file again, and opens the journal in that file. A file without lines gets the head first. Fails with a fault of
+/// `run_again` or `open_journal`, and then gives the disk back.
 fn opened<D: Disk + Drop, L: LinkStore, A: Adapter, H: Listener>(
     alloc: Global,
     session: &mut Journaled<L, A, H>,
@@ -85,7 +86,7 @@ fn opened<D: Disk + Drop, L: LinkStore, A: Adapter, H: Listener>(
     }
 }
 
-/// Runs a script live, and keeps its changes in a journal. Returns the disk of the journal, and the writer.
+/// Runs a script live, and keeps its changes in a journal. Returns the outcome of the run, the disk of the journal, and the writer.
 fn run_opened<R: Read, D: Disk, W: Write, L: LinkStore, A: Adapter, H: Listener>(
     alloc: Global,
     reader: &mut BufReader<R>,

@@ -41,8 +41,7 @@ pub fn a_run_writes_the_dressed_script()
         → dressed_output d (lines bytes) (script s bytes (lost_lines printed)) ≡ dressed_output d first printed }
 {}
 
-/// A live run writes what each line prints, with an empty line after it. This output too is what `script` gives for the lost lines of the
-/// run.
+/// A live run writes what each line prints, with an empty line after it. For the lost lines of the run, `script` gives the same output.
 pub fn a_live_run_writes_the_script_with_empty_lines()
     ensures texts { (printed : List Printed) → live_text printed ≡ texts (map with_empty_line printed) }
     ensures script { (s t : Session) (bytes : List ℕ) (printed : List Printed) → RunsLines s (lines bytes) printed t
@@ -50,8 +49,8 @@ pub fn a_live_run_writes_the_script_with_empty_lines()
 {}
 
 /// What was kept comes back. Of the lines of a run, a journal keeps some. If the kept lines are run again, without adapters, from the model
-/// before the run, then all of them are done, and they leave the model that all lines of the run left. A session that has the model before
-/// the run and no adapters refuses one of the kept lines only if memory is refused.
+/// before the run, then all of them are done, and they leave the model that all lines of the run left. If a session has the model from
+/// before the run, and no adapters, it refuses one of the kept lines only if memory is refused.
 pub fn what_was_kept_comes_back()
     ensures again { (s t : Session) (ls : List (List ℕ)) (printed : List Printed) → RunsLines s ls printed t
         → model_after_lines s.state.model (kept_lines ls printed) ≡ Some t.state.model }

@@ -7,7 +7,7 @@ use repository::Repository;
 /// run again. If a fault stops the run, this call may be left out for the last line that was run. The listener can read the repository,
 /// but can't change it.
 pub trait Listener: Drop {
-    /// Whether the listener has to be called. If not, a run takes no time for the listener.
+    /// Whether `line_was_run` has to be called. If not, a run takes no time for the listener.
     fn is_listening(&self) -> bool;
 
     /// Takes note that the next line is the first line of a script. The lines before it came from a journal.

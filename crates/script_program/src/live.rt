@@ -125,12 +125,12 @@ pub fn live_over<R: Read, W: Write, L: LinkStore, A: Adapter, H: Listener>(
 }
 
 /// Runs a script as `run` does, but answers each line before it reads the next: the text that a line prints is written with an empty line
-/// after it, and for a line that is skipped only an empty line is written. Before a read that may wait, the writer is flushed.
+/// after it, and for a blank line only an empty line is written. Before a read that may wait, the writer is flushed.
 ///
-/// Fails with `Read` if a read fails, with `TooLong` if a line has more than `INPUT_BYTES` bytes or if the script has `u64::MAX` newlines
-/// or more, with `Write` if a write or a flush fails or a write takes no byte, and with `Memory` if memory is refused to the run itself.
-/// After each of these faults, a prefix of the output of the first lines was written. If memory is refused to the repository, the line
-/// prints `refused 28 MEMORY`, and the run goes on.
+/// Fails with `Read` if a read fails; with `TooLong` if a line has more than `INPUT_BYTES` bytes, or if the script has `u64::MAX` newlines
+/// or more; with `Write` if a write or a flush fails, or if a write takes no byte; and with `Memory` if memory is refused to the run
+/// itself. After each of these faults, a prefix of the output of the first lines was written. If memory is refused to the repository, the
+/// line prints `refused 28 MEMORY`, and the run goes on.
 pub fn run_live<R: Read, W: Write, L: LinkStore, A: Adapter>(
     alloc: Global,
     reader: &mut BufReader<R>,

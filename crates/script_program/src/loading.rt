@@ -9,7 +9,7 @@ use links::LinkStore;
 use mm_types::{Refused, ResourceNo};
 use repository::{Answer, Reply, Repository};
 
-/// The resource that an answer names.
+/// The resource that was made, if the answer is `Answer::Resource`; `None` for any other answer.
 fn resource_in(answer: &Answer) -> Option<ResourceNo>
     ensures { result ≡ made_resource answer.now }
 {
@@ -33,8 +33,8 @@ fn load_into<L: LinkStore, A: Adapter>(
     }
 }
 
-/// Makes a resource whose URI a text gives, and loads a document into the resource, as the lines `resource` and `load` do. The document may
-/// have any length, and newlines. Returns the reply of the load.
+/// Makes a resource with the URI that the text `uri` gives, and loads `document` into the resource, as the lines `resource` and `load` do.
+/// The document may have any length, and newlines. Returns the reply of the load.
 ///
 /// Refused as `create_resource` is, or else as `load` is. If the load is refused, the resource was made, and is empty.
 pub fn load_resource<L: LinkStore, A: Adapter>(

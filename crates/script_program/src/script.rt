@@ -24,7 +24,7 @@ use script_streams::{RunFault, read_all};
 use std::alloc::Global;
 use std::io::{Read, Write};
 
-/// Calls a listener with a line that was run.
+/// Calls a listener with a line that was run, if the listener has to be called.
 fn tell<L: LinkStore, A: Adapter, H: Listener>(
     listener: &mut H,
     repository: &Repository<L, A>,

@@ -51,7 +51,7 @@ impl<T: Drop> Piece<T> {
         &self.ring[index]
     }
 
-    /// Puts a value before the others.
+    /// Puts a value before all values of the piece.
     pub fn push_first(&mut self, value: T)
         requires { length self.old < 1024 }
         ensures { self.new ≡ value ∷ self.old }
@@ -59,7 +59,7 @@ impl<T: Drop> Piece<T> {
         self.ring.push_front_reserved(value);
     }
 
-    /// Puts a value after the others.
+    /// Puts a value after all values of the piece.
     pub fn push_last(&mut self, value: T)
         requires { length self.old < 1024 }
         ensures { self.new ≡ self.old ++ value ∷ [] }

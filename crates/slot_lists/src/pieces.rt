@@ -84,7 +84,7 @@ impl<T: Drop> Pieces<T> {
         Ok(())
     }
 
-    /// Puts values, for which there is capacity, after the others. Takes no memory.
+    /// Adds `values` at the end of the list, which has capacity for them. Takes no memory.
     pub fn append(&mut self, values: Vec<T>)
         requires { vec_len values ≤ self.old.spare }
         ensures items { self.new.items ≡ self.old.items ++ values.items }

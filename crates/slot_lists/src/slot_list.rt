@@ -9,16 +9,17 @@ use std::alloc::{AllocError, AllocFailed, Global};
 use std::marker::Model;
 use std::mem;
 
-/// A short list is in one block, and a long list is in pieces. A long list that was made from a `Vec` is in the block of the `Vec` until
-/// `reserve` moves it into pieces.
+/// A list is in one block until `reserve` moves it into pieces: `reserve` does this if the list, together with the values for which it
+/// reserves capacity, is longer than one piece. So a long list is in one block only if it was made from a `Vec`, and `reserve` has not
+/// moved it since. A list in pieces stays in pieces when it becomes short, until `replace` puts the block of a `Vec` in their place.
 #[derive(Drop)]
 enum Layout<T> {
     Short(Vec<T>),
     Long(Box<Pieces<T>>),
 }
 
-/// A list, and capacity for more values. An insert or a removal at any index takes at most about as many steps as a piece can hold values,
-/// plus one step for each piece of the list. Only a long list that is still in the block of a `Vec` takes more steps.
+/// A list, and capacity for more values. An insert or a removal at any index takes at most about 1,024 steps, as many as a full piece has
+/// values, plus one step for each piece of the list. Only a long list that is still in the block of a `Vec` takes more steps.
 #[derive(Drop)]
 pub struct SlotList<T> {
     layout: Layout<T>,
@@ -126,8 +127,7 @@ impl<T: Drop> SlotList<T> {
         }
     }
 
-    /// Inserts a value before the value at an index, or at the end. If memory is refused, the value is given back and
-    /// nothing has changed.
+    /// Inserts a value before the value at an index, or at the end. If memory is refused, the value is given back and nothing has changed.
     pub fn insert(&mut self, index: usize, value: T) -> Result<(), AllocFailed<T>>
         requires { index ≤ length self.old.items }
         ensures items { self.new.items ≡ (if is_ok result then insert self.old.items index value else self.old.items) }
@@ -197,7 +197,7 @@ impl<T: Drop> SlotList<T> {
         }
     }
 
-    /// Puts values, for which there is capacity, after the others. Takes no memory.
+    /// Adds `values` at the end of the list, which has capacity for them. Takes no memory.
     fn append(&mut self, values: Vec<T>)
         requires { vec_len values ≤ self.old.spare }
         ensures items { self.new.items ≡ self.old.items ++ values.items }

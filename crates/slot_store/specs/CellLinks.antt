@@ -106,6 +106,6 @@ IsStore t = IsKept (cells t) (ends_of t)
 unfoldable pub store_links : NodeSlots → Links
 store_links t = cell_links (cells t) (ends_of t)
 
--- m are kinds that features can have, and the links agree with them
+-- m gives the features opposites and containing features that agree with each other (`AreKinds`), and the links agree with m
 abbrev pub IsStoreOfKind : NodeSlots → Kinds → Type 0
 IsStoreOfKind t m = AreKinds m × AreOfKind m (store_links t)

@@ -28,8 +28,9 @@ pub(crate) fn value_of(node: Node) -> Value
     }
 }
 
-/// For a link from `end` to `object` whose containing feature is the opposite: the node of `end`, and the end of `object` that contains
-/// this node. `None` if there is no opposite, or if the opposite is not the containing feature.
+/// For a link from `end` to `object` through which `object` contains the node of `end`: this node, and the end of `object` that contains
+/// it. `opposite` is the opposite of the feature of `end`, and `container` the containing feature. `None` if there is no opposite, or if
+/// the opposite is not the containing feature.
 fn held_by_far(
     end: End,
     object: ObjectNo,

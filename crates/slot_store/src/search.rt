@@ -1,13 +1,13 @@
 //! The position of a value in an end, and the index of an end among the entries of an object. The entries of an object are the ends without
 //! opposite that have the object as a value.
 //!
-//! Most lists of values are made in the order of their objects' numbers. So the guess of a position assumes that order; the last and the
-//! first position are tried first. If a removal finds that the guess in a long list is wrong, the next reservation for the list gives
-//! labels to its objects, if there is memory. The position is then guessed from the labels. A list that may have proxies gets no labels.
-//! The list is searched only if the guess is wrong.
+//! Most lists of values are made in the order of their objects' numbers. So the guess of a position assumes that these numbers rise or fall
+//! along the list; the last and the first position are tried first. If a removal finds that the guess in a long list is wrong, the next
+//! reservation for the list gives labels to its objects, if there is memory. The position is then guessed from the labels. A list that may
+//! have proxies gets no labels. The list is searched only if the guess is wrong.
 //!
-//! Entries may be in any order. If an end that is cut is not at its guessed index among the entries, the entries are sorted by
-//! `entry_rank`, so that the next guesses are right.
+//! Entries may be in any order. A cut that takes an end out of the entries of an object guesses the index of the end. If the guess is
+//! wrong, the entries are sorted by `entry_rank`, so that the next guesses are right.
 ghost use Rattle.std.specs.Prelude.{◌≡◌, position};
 ghost use Rattle.mm_types.specs.Same.{same_end};
 ghost use Rattle.mm_types.specs.declared.numbers.Node.TheVariants as node;
@@ -76,8 +76,8 @@ pub(crate) fn entry_found(rows: &NodeSlots, object: ObjectNo, end: End) -> Optio
 }
 
 /// A guess at the index of an end among the entries of an object. If the end is not at the guessed index, the entries are sorted by
-/// `entry_rank`, and the index is guessed again. Sorting moves each entry at most once, and sorted entries stay sorted after a cut. So one
-/// sort is enough for many cuts of one object's entries. Takes no memory.
+/// `entry_rank`, and the index is guessed again. The sort makes at most one insertion for each entry, and sorted entries stay sorted after
+/// a cut. So one sort is enough for many cuts of one object's entries. Takes no memory.
 pub(crate) fn ordered_guess(rows: &mut NodeSlots, object: ObjectNo, end: End) -> usize
     ensures cells { AreReordered (cells rows.old) (cells rows.new) }
     ensures room { room rows.new ≡ room rows.old }

@@ -45,7 +45,7 @@ impl Model for Snapshot {
 }
 
 impl Snapshot {
-    /// The snapshot that has these states of nodes, which are in order. Takes no memory.
+    /// The snapshot that has the states in `nodes`, which are in the order of their nodes. Takes no memory.
     pub(crate) fn from_vec(nodes: Vec<NodeState>) -> Self
         requires in_order { AreInOrder nodes.items }
         ensures { result ≡ nodes.items }

@@ -12,8 +12,8 @@ use Rattle.models.specs.Reading.{Reading, all_features_of, at_end, is_set, shape
 abbrev pub is_missing : Reading → End → Bool
 is_missing r e = same_value value.Null (value_at r e) || ((shape_at r e).is_unsettable && not (is_set r e))
 
--- whether an end has too few values: a list has fewer values than its lower bound, or a single feature with a lower bound of at least 1 has
--- no value
+-- whether an end has too few values. A list has too few if it has fewer values than its lower bound. A single feature has too few if its
+-- lower bound is at least 1 and `is_missing` is true
 abbrev pub is_too_few : Reading → End → Bool
 is_too_few r e =
     let a = shape_at r e in

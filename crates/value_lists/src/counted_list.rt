@@ -130,7 +130,8 @@ impl CountedList {
     }
 
     /// An index at which the value is, guessed by the label of its hash; `None` if the value is at no guessed index. `find` calls this
-    /// function if its own guess is wrong. The guess of `find` assumes that the labels from the first one up to `label` are evenly spread.
+    /// function if its own guess is wrong. The guess of `find` is right if the label of the first value is known exactly, and the labels
+    /// from that label up to `label` are as far apart as new labels are.
     #[cold]
     fn find_farther(&self, label: u64, value: &Value) -> Option<usize>
         ensures { IfSome result (λ i. is_at value.now i self.now.items ≡ true) }
@@ -158,7 +159,7 @@ impl CountedList {
         }
     }
 
-    /// The label of the value at an index; 0 past the end.
+    /// The label of the hash of the value at an index; 0 past the end.
     fn label_at(&self, index: usize) -> u64 {
         let Some(value) = self.list.get(index) else {
             return 0;
@@ -287,8 +288,8 @@ impl CountedList {
         self.label_moved(to);
     }
 
-    /// If `is_labelled` is set, gives the value at an index a label between the labels of its neighbours. The value was moved to this
-    /// index.
+    /// If `is_labelled` is set, gives a new label to the value that was moved to `index`: a label between the labels of its neighbours, or
+    /// beyond all labels if the value is now the first or the last.
     fn label_moved(&mut self, index: usize)
         ensures items { self.new.items ≡ self.old.items }
         ensures spare { self.new.spare ≡ self.old.spare }

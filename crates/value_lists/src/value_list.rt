@@ -26,8 +26,8 @@ enum Layout {
     Counted(Box<CountedList>),
 }
 
-/// A list, and if it is long and is looked up by value, how many of its values have each hash. Contracts see the values, and the capacity
-/// for more values.
+/// A list of values. If the list is long and is looked up by value, it also keeps how many of its values have each hash. Contracts see the
+/// values, and the capacity for more values.
 #[derive(Drop)]
 pub struct ValueList {
     layout: Layout,

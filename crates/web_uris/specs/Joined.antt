@@ -41,11 +41,12 @@ own_text u = option_and_then web_text (if_parsed (parse_url None u))
 abbrev pub IsWebUri : List ℕ → Type 0
 IsWebUri u = own_text u ≡ Some u
 
--- the URI of a reference joined with a base; none if they give no URI of http or https without a fragment
+-- the URI that a reference gives when it is joined with a base. None if the reference gives no URI, or if the URI that it gives has a
+-- fragment, or a scheme other than http and https
 unfoldable pub joined_uri : List ℕ → List ℕ → Option (List ℕ)
 joined_uri base reference = option_and_then web_text (parts_of base reference)
 
--- a URI is a result of joining: of some reference with some base
+-- a URI is the result of joining some reference with some base
 pub record IsJoined (u : List ℕ) : Type 0 where
   pub base : List ℕ
   pub reference : List ℕ

@@ -1,5 +1,5 @@
--- Fragments as texts: `/`, the root's segment, and a step `/@NAME` or `/@NAME.INDEX` for each part on the way (EMF: the
--- default fragment paths of Resource.getURIFragment).
+-- Fragments as texts: `/`, the root's segment, and a step `/@NAME` or `/@NAME.INDEX` for each part on the way (EMF: the default fragment
+-- paths of Resource.getURIFragment).
 use Rattle.std.specs.Prelude.{◌≡◌, ◌<◌, ◌⊎◌, IfSome, ℕ, ◌&&◌, ◌==◌, ◌++◌, Bool, true, false, List, [], ◌∷◌, flat_map, length, nat_eq, nat_le, Option, Some, None, option_and_then, option_map, decimal, if◌then◌else◌}
 use Rattle.std.specs.List.{slice_split}
 use Rattle.std.specs.Str.{bytes_eq}
@@ -97,7 +97,7 @@ same_path p q = nat_eq p.root q.root && same_steps p.steps q.steps
 
 ---------------------------------------------------------------- what can be written
 
--- a step's name is formed as names must be, and its index has at most seven digits
+-- a step's name has the form of a name (`is_name`); if the step has an index, the index has at most seven digits
 abbrev pub IsWritten : Step → Type 0
 IsWritten s = (is_name s.name ≡ true) × IfSome s.index (λ i. i < 10000000)
 
@@ -109,6 +109,6 @@ pub record IsWritable (p : Path) : Type 0 where
   pub root : p.root < 10000000
   pub steps : AreWritten p.steps
 
--- t is a text of the path p, and p can be written; the root's segment of t is the root's index, or may be empty for root 0
+-- the path p can be written, and t is a text of p; the root's segment in t is the root's index, and may also be empty if this index is 0
 abbrev pub Writes : List ℕ → Path → Type 0
 Writes t p = IsWritable p × ((t ≡ path_text false p) ⊎ ((t ≡ path_text true p) × (p.root ≡ 0)))

@@ -9,7 +9,8 @@ use crate::step::{root_of, step_of};
 use mm_types::Seq;
 use std::alloc::{AllocError, Global};
 
-/// The steps of a text; `None` if it is no sequence of steps. Without a text, the list of steps is empty.
+/// The steps that `text` writes, without the slash before the first step; `None` if the text is no sequence of steps. Without a text, the
+/// list of steps is empty.
 fn steps_of(alloc: Global, text: Option<&str>) -> Result<Option<Seq<Step>>, AllocError>
     ensures { IfOk result (λ steps. steps ≡ steps_meant (segments (option_copied text.entry))) }
 {
@@ -40,9 +41,9 @@ fn path_behind(alloc: Global, text: &str) -> Result<Option<Path>, AllocError>
     }
 }
 
-/// The path of a text; `None` if the text is no fragment. A fragment is `/`, the root's segment, which is empty or an index, and any number
-/// of steps, `/@NAME` or `/@NAME.INDEX`. An index is `0`, or a digit 1 to 9 and at most six further digits. Fails only if memory is
-/// refused.
+/// The path of a text; `None` if the text is no fragment. A fragment is `/`, the root's segment, and any number of steps. The root's
+/// segment is empty or an index. A step is `/@NAME` or `/@NAME.INDEX`. An index is `0`, or a digit 1 to 9 and at most six further digits.
+/// Fails only if memory is refused.
 pub fn parse(alloc: Global, text: &str) -> Result<Option<Path>, AllocError>
     ensures { IfOk result (λ path. path ≡ parsed text.now) }
 {

@@ -11,8 +11,8 @@ use url::{ParseError, ParseResult, Url};
 /// Why a reference and a URI give no URI.
 #[derive(Clone, Copy, Debug, PartialEq, Eq)]
 pub enum UriFault {
-    /// Neither the reference nor the joined reference is a URI, or the scheme of the URI is neither http nor https, or the URI has a
-    /// fragment.
+    /// The reference gives no URI, neither by itself nor joined with the base. Or the URI that it gives has a fragment, or a scheme other
+    /// than http and https.
     Bad,
     /// Memory was refused, or the URI would be longer than URIs can be.
     Memory,

@@ -1,7 +1,7 @@
 //! The texts that address objects: the URIs of resources, references that are joined with them, and the fragments after them.
 //!
-//! `specs/Joined.antt` says what joining gives, `specs/Paths.antt` is the grammar of fragments, and `specs/Addresses.antt`
-//! says how a URI and a fragment make one text.
+//! `specs/Joined.antt` says what joining gives, `specs/Paths.antt` is the grammar of fragments, and `specs/Addresses.antt` says how a URI
+//! and a fragment make one text.
 #![tactic(auto)]
 
 mod address;

@@ -70,7 +70,7 @@ impl<A: Adapter> AdapterList<A> {
         Ok(())
     }
 
-    /// Why the list refuses an adapter with the number `no`; None if the list takes the adapter.
+    /// Why the list refuses an adapter with the number `no`: Limit or AdapterTaken; None if neither applies.
     fn list_refusal(&self, no: AdapterNo) -> Option<Refused>
         ensures { result ≡ list_refusal self.now.0 no }
     {

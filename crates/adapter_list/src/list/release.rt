@@ -24,7 +24,7 @@ use std::mem;
 impl<A: Adapter> AdapterList<A> {
     /// Takes one target from an adapter. The adapter loses the target, and gets its last notification from that target. Returns the
     /// notification, and the adapter if it has no target left. If the node is no target of the adapter, the result is `None`, and nothing
-    /// changes, the capacity of the adapter included. Takes no memory (EMF: `eAdapters().remove`).
+    /// changes, not even the capacity of the adapter. Takes no memory (EMF: `eAdapters().remove`).
     pub fn detach(&mut self, no: AdapterNo, target: Node) -> Option<Detached<A>>
         ensures some { is_some result ≡ is_target no target self.old.0 }
         ensures none { result ≡ None → self.new ≡ self.old }
@@ -42,9 +42,9 @@ impl<A: Adapter> AdapterList<A> {
         detached
     }
 
-    /// Takes targets from adapters, one after another: the adapter of a target gets its last notification from the target, and then no
-    /// longer has the target. A node that is no target of the adapter is skipped. Then the adapters whose last target was taken away are
-    /// given back, in attach order. Returns which adapter was notified of what, and the adapters that are given back. Takes no memory.
+    /// Takes targets from adapters, one after another. The adapter of a target loses the target, and gets its last notification from it. An
+    /// element of `release` whose node is no target of its adapter is skipped. Then the adapters whose last target was taken away are given
+    /// back, in attach order. Returns which adapter was notified of what, and the adapters that are given back. Takes no memory.
     pub fn release(
         &mut self,
         release: Release<A>,

@@ -11,7 +11,8 @@ use notice_chain::Notice;
 
 impl<A: Adapter> AdapterList<A> {
     /// Makes sure that each adapter has capacity for the copies that it gets, and for a last notification from each of its targets. Each
-    /// adapter that gets copies is asked once, in attach order, and the first refusal is returned. No adapter loses capacity.
+    /// adapter that gets copies is asked once, in attach order, and the first refusal is returned. If memory is refused for counting the
+    /// copies, `Memory` is returned, and no adapter is asked. No adapter loses capacity.
     pub(super) fn reserve_places(&mut self, copies: &[(usize, Notice)]) -> Result<(), NoRoom>
         requires within { AllByRecursion (λ c. c.0 < length self.old.1) copies.now }
         ensures grown { HasGrown self.old self.new }
@@ -37,8 +38,8 @@ impl<A: Adapter> AdapterList<A> {
         Ok(())
     }
 
-    /// Makes sure that each adapter has the capacity that `reserve_places` says, for copies that are in attach order, with at most one copy
-    /// for each adapter. Only the adapters take memory.
+    /// Reserves what `reserve_places` reserves. The copies must be in the attach order of their adapters, with at most one copy for each
+    /// adapter. So they need not be counted, and only the adapters take memory.
     fn reserve_each(&mut self, copies: &[(usize, Notice)]) -> Result<(), NoRoom>
         requires within { AllByRecursion (λ c. c.0 < length self.old.1) copies.now }
         requires ascending { ascends None (ordinals copies.now) ≡ true }
@@ -55,8 +56,7 @@ impl<A: Adapter> AdapterList<A> {
         Ok(())
     }
 
-    /// Makes sure that the adapter at `ordinal` has capacity for this number of copies, and for a last notification from each of its
-    /// targets.
+    /// Makes sure that the adapter at `ordinal` has capacity for `count` copies, and for a last notification from each of its targets.
     fn reserve_for(&mut self, ordinal: usize, count: usize) -> Result<(), NoRoom>
         requires within { ordinal < length self.old.1 }
         requires fits { count < 2 ^ 63 }

@@ -45,8 +45,9 @@ impl<A: Adapter> AdapterList<A> {
     /// loses capacity. So a round that fitted the adapters still fits them.
     ///
     /// Refused with AdapterFull if an adapter can't count its notifications of the chain and a last notification from each of its targets,
-    /// or with Memory if memory is refused. Unless memory is refused to the list itself, the first adapter in attach order that refuses
-    /// decides the refusal. If the refusal is AdapterFull, each adapter before the full one has the capacity that it needs.
+    /// or with Memory if memory is refused. The adapters reserve in attach order, and the first adapter that refuses decides the refusal,
+    /// unless memory is refused to the list itself. If the refusal is AdapterFull, each adapter before the full adapter has the capacity
+    /// that it needs.
     pub fn reserve_all<L: LinkStore>(&mut self, store: &L, chain: Chain) -> Result<Round, Refused>
         requires legal { IsLegalSet (L.links store.now) }
         requires no_cycle { HasNoCycle (L.links store.now) }
@@ -122,7 +123,8 @@ impl<A: Adapter> AdapterList<A> {
 
     /// The round of a chain: a copy of each notification for each adapter that gets it. If successive notifications have the same notifier,
     /// the adapters of this notifier are found once. If `hearers` has the adapters of the first notifier already, they are not looked for
-    /// again. Afterwards `hearers` has the adapters of the last notifier. Fails only if memory is refused.
+    /// again. Afterwards `hearers` has the adapters of the last notifier; an empty chain does not change `hearers`. Fails only if memory is
+    /// refused.
     #[inline(always)]
     pub fn round<L: LinkStore>(
         &self,

@@ -26,7 +26,7 @@ impl<A: Adapter> AdapterList<A> {
         Ok(found)
     }
 
-    /// Adds the indexes of the adapters that have a target among `objects`.
+    /// Adds to `ordinals` the indexes of the adapters that have a target among `objects`.
     fn add_objects(
         &self,
         objects: &[ObjectNo],

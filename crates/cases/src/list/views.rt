@@ -43,7 +43,7 @@ fn keep(told: Vec<(AdapterNo, Notice)>, notices: &mut Vec<Notice>) -> Result<(),
     Ok(())
 }
 
-/// Names a book, and adds the notifications of this change to `notices`.
+/// Names the book with the number `number`, and adds the notifications of this change to `notices`.
 fn name_book<L: LinkStore, A: Adapter>(
     alloc: Global,
     repository: &mut Repository<L, A>,
@@ -57,7 +57,7 @@ fn name_book<L: LinkStore, A: Adapter>(
     }
 }
 
-/// Names all books, and adds the notifications of these changes to `notices`.
+/// Names the books with the numbers below `count`, and adds the notifications of these changes to `notices`.
 fn name_all<L: LinkStore, A: Adapter>(
     alloc: Global,
     repository: &mut Repository<L, A>,

@@ -29,7 +29,7 @@ fn is_below(numbers: &[usize], count: usize) -> bool
     numbers.iter().all(|n| *n < count)
 }
 
-/// Whether every number of a supertype is the number of a class of the graph.
+/// Whether each supertype in the rows of `graph` is the number of a class of `graph`.
 fn is_in_range(graph: &[Seq<usize>]) -> bool
     ensures { IsTrue result ↔ InRange graph.now }
 {
@@ -44,8 +44,7 @@ fn diamond(alloc: Global) -> Result<Vec<Seq<usize>>, AllocError> {
     rows_of(alloc, &[&[2, 1], &[3], &[3], &[]])
 }
 
-/// A ladder of diamonds: each class 3i is the supertype of 3i+1 and 3i+2, and these two are supertypes of
-/// 3i+3.
+/// A ladder of diamonds: each class 3i is the supertype of 3i+1 and 3i+2, and these two are supertypes of 3i+3.
 fn ladder(alloc: Global, count: usize) -> Result<Vec<Seq<usize>>, AllocError> {
     let mut graph = Vec::new(alloc);
     for c in 0..count {
@@ -65,7 +64,7 @@ fn ladder(alloc: Global, count: usize) -> Result<Vec<Seq<usize>>, AllocError> {
     Ok(graph)
 }
 
-/// The numbers of some rows, each row between brackets.
+/// The items of some rows as a text, each row between brackets. The items are numbers or truth values.
 fn shown<T: Debug>(alloc: Global, rows: &[Seq<T>]) -> Result<String, AllocError> {
     let mut shown = String::new(alloc);
     for numbers in rows {
@@ -75,7 +74,7 @@ fn shown<T: Debug>(alloc: Global, rows: &[Seq<T>]) -> Result<String, AllocError>
     Ok(shown)
 }
 
-/// The given order of the classes, and all features of each class; `own` has the features that each class declares.
+/// The order `order` of the classes, and all features of each class, as a text; `own` has the features that each class declares.
 fn inherited_by(
     alloc: Global,
     graph: &[Seq<usize>],
@@ -172,7 +171,8 @@ fn names_of(alloc: Global, rows: &[[&str; 2]]) -> Result<Vec<Seq<Text>>, AllocEr
     Ok(names)
 }
 
-/// For each class whether two of its features share a name.
+/// For each class whether two of its features, own or inherited, share a name. `names` has the names of the features that each class
+/// declares.
 fn clashing(alloc: Global, graph: &[Seq<usize>], names: &[Seq<Text>]) -> Result<String, Fail> {
     if !is_in_range(graph) || names.len() != graph.len() {
         return Err(Fail::new("these are no classes"));

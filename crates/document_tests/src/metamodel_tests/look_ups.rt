@@ -56,8 +56,8 @@ fn features_are_found_by_number(rt: HostRuntime) -> Result<(), Fail> {
     Ok(())
 }
 
-/// For each class: its name, the number that is found by this name, and all its features. For the number past the last, the name is
-/// `Resource`, and nothing is found.
+/// For each class: its name, the number that is found by this name, and all its features. For the number past the last class, the name is
+/// `Resource`, by which no class is found.
 const CLASSES: &str = "Named Some(ClassNo(0)) Some([FeatureNo(0)])
 Library Some(ClassNo(1)) Some([FeatureNo(0), FeatureNo(1), FeatureNo(2), FeatureNo(3)])
 Book Some(ClassNo(2)) Some([FeatureNo(0), FeatureNo(4), FeatureNo(5), FeatureNo(6), FeatureNo(7), FeatureNo(8), FeatureNo(9), FeatureNo(10), FeatureNo(11)])
@@ -94,7 +94,7 @@ fn classes_are_found_by_number_and_by_name(rt: HostRuntime) -> Result<(), Fail> 
 }
 
 /// For each class: its number, the numbers of the classes that it conforms to, and the numbers of its features. For the number past the
-/// last, there are none.
+/// last class, both lists of numbers are empty.
 const INHERITED: &str = "0: 0, 0
 1: 0 1, 0 1 2 3
 2: 0 2, 0 4 5 6 7 8 9 10 11
@@ -148,7 +148,7 @@ fn classes_conform_to_their_supertypes_and_have_their_features(
     Ok(())
 }
 
-/// Classes and names, and the feature that each pair names.
+/// Pairs of a class and a name, and the feature that each pair names; `None` if the class has no feature of this name, or does not exist.
 const NAMED: [(u32, &str, Option<FeatureNo>); 6] = [
     (2, "name", Some(FeatureNo(0))),
     (2, "prev", Some(FeatureNo(11))),
@@ -177,7 +177,8 @@ const LITERALS: [(u32, u32, &str); 5] = [
     (1, 0, "PLAY"),
 ];
 
-/// The results of these look-ups. Each line has the name that is found by the index, and the index that is found by the name.
+/// The results of the look-ups of `LITERALS`. Each line has the results for one entry: the name that is found by the index, and the index
+/// that is found by the name.
 const FOUND: &str = "Some(\"NOVEL\") Some(0)
 Some(\"POEM\") Some(1)
 Some(\"PLAY\") Some(2)

@@ -1,4 +1,4 @@
-//! Documents at two limits, of the bytes of a text and of the levels of objects; and a document with 100,000 roots.
+//! Documents at the limit of the bytes of a text, documents at the limit of the levels of objects, and a document with 100,000 roots.
 use crate::fixtures::resource::{library, of_roots, refusal};
 use mm_meta::Meta;
 use mm_types::{DocFault, Refused};

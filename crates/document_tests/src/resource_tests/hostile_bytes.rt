@@ -2,7 +2,7 @@
 //! replaced by a byte 0, by a byte 255 or by a quote. The text that this gives is read or refused, and the answers are counted.
 //!
 //! The expected counts follow from the grammar of JSON. None of the three texts has a backslash. A text that is cut before its last brace
-//! is no JSON. Neither is a text with a byte 0, which JSON never has, with a byte 255, which is not UTF-8, or with an odd number of quotes.
+//! is no JSON. Nor is a text with a byte 0 (JSON has none), with a byte 255 (UTF-8 has none), or with an odd number of quotes.
 use crate::fixtures::library::{LIBRARY, library};
 use crate::fixtures::resource::refusal;
 use mm_check::check_document;
@@ -54,11 +54,11 @@ const INPUTS: [Input; 3] = [
     },
 ];
 
-/// How often each answer was given: at index 0 how often a text was read, and at the number of each fault or cause how often it was
-/// returned.
+/// How often each answer was given. Index 0 has the count of texts that were read; the number of a fault or cause is the index of its
+/// count.
 type Counts = [u32; 13];
 
-/// Counts of texts that are read, and of texts that are no JSON.
+/// The counts if `read` texts were read, `no_json` texts were refused since they are no JSON, and no other answer was given.
 fn counts(read: u32, no_json: u32) -> Counts {
     let mut counts = [0; 13];
     counts[0] = read;

@@ -47,7 +47,7 @@ fn value(at: u32) -> Value {
     }
 }
 
-/// What `shown_twice` gives for each of these six values.
+/// What `shown_twice` gives for each of the six values that `value` returns, in the order of their indexes.
 const VALUES: [&str; 6] = [
     "Null Null",
     "Bool(true) Bool(true)",

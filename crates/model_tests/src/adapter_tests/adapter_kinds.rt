@@ -6,7 +6,8 @@ use adapters::{Adapter, Counter, NoRoom, Recorder, Window};
 use std::process::Abort;
 use std::test::Fail;
 
-/// Notifies an adapter three times, at the positions 0 to 2, if it has capacity for three notifications.
+/// Reserves capacity for three notifications, and notifies the adapter of three additions, at the positions 0 to 2 of a list. If the
+/// adapter refuses the capacity, returns the reason, and does not notify the adapter.
 fn notify_three<A: Adapter>(adapter: &mut A) -> Result<(), NoRoom> {
     match adapter.reserve(3) {
         Err(reason) => Err(reason),

@@ -32,8 +32,8 @@ fn refused_to_three<A: Adapter>(
     Ok((refused, told_of_three(&*list)))
 }
 
-/// Three adapters in attach order, and why a chain is refused. Some of the adapters can't be notified of the chain; the first one that
-/// can't decides.
+/// Three adapters in attach order, and why a chain is refused. Some of the adapters can't be notified of the chain, and the first of these
+/// decides.
 const REFUSED: [(Kind, Kind, Kind, Refused); 3] = [
     (
         Kind::Recorder,
@@ -129,8 +129,8 @@ fn told(alloc: Global, told: &[(AdapterNo, Notice)]) -> Result<String, AllocErro
     Ok(shown)
 }
 
-/// Delivers three notifications to a list of two adapters at object 1 and one at object 2 between them. Returns which adapter is notified
-/// of what, how many notifications each adapter got, and how many the first adapter keeps.
+/// Delivers three notifications to a list of three adapters: the first and the third are at object 1, and the second is at object 2.
+/// Returns which adapter is notified of what, how many notifications each adapter got, and how many the first adapter keeps.
 fn delivered<A: Adapter>(alloc: Global, first: A, second: A, third: A) -> Result<String, Fail> {
     let mut list = three(alloc, [1, 2, 1], first, second, third)?;
     let chain = three_notices(alloc)?;

@@ -91,7 +91,8 @@ fn refused<A: Adapter>(
     }
 }
 
-/// What `refused` returns in a repository of one book, to which a different adapter is attached as number 6.
+/// What `refused` returns for `adapter`, which has got notifications before, in a repository of one book. `other` is attached to the book
+/// as number 6.
 fn refused_at_a_book<A: Adapter>(
     alloc: Global,
     again: &Again,

@@ -178,7 +178,7 @@ fn commands_attach_count_and_detach(rt: HostRuntime) -> Result<(), Fail> {
     Ok(())
 }
 
-/// Commands that are refused in a repository of one book in which an adapter has the number 5 and none has the number 9.
+/// Commands that are refused in a repository of one book, with an adapter under the number 5 and none under the number 9.
 fn refused_commands(alloc: Global) -> Result<Vec<Command<Counter>>, AllocError> {
     let heard = || Counter::starting_at(41);
     let full = Counter::starting_at(18446744073709551615);
@@ -194,7 +194,7 @@ fn refused_commands(alloc: Global) -> Result<Vec<Command<Counter>>, AllocError> 
     Ok(commands)
 }
 
-/// The refusals of these commands: no object, no resource, a taken number, a full adapter, and three times no adapter.
+/// The refusals of `refused_commands`, in order: no object, no resource, a taken number, a full adapter, and three times no adapter.
 const REFUSED: &str =
     "refused 1, back, 41 told\nrefused 2, back, 41 told\nrefused 26, back, 41 told\nrefused 27, back, 18446744073709551615 told\nrefused 25\nrefused 25\nrefused 25\n";
 

@@ -105,8 +105,8 @@ fn planned(edits: Vec<ValueEdit>) -> ValuePlan {
     ValuePlan::from_seq(Seq::from_vec(edits))
 }
 
-/// The plan of an object that gets two values, of a resource, and of an object that is destroyed again. The last edit is for the destroyed
-/// object, and changes nothing.
+/// A plan that makes an object and a resource, puts two values into the object, and makes and destroys a second object. The last edit is
+/// for the destroyed object, and changes nothing.
 fn each_edit(alloc: Global) -> Result<ValuePlan, AllocError> {
     let (uri, two) = (new_uri(alloc, "a.xmi")?, put_two(alloc)?);
     Ok(planned(vec![in alloc;

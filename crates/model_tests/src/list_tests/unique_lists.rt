@@ -113,8 +113,8 @@ fn check_edits(values: &mut Values, count: u32) -> Result<(), Fail> {
     check(values, 1, count)
 }
 
-/// Replaces a list by a short list, and then by a list of `count` numbers from 0 on; adds one more value each time. Checks the list after
-/// each edit.
+/// Replaces a list by a short list, and then by a list of `count` numbers from 0 on; adds one more value each time. At the end takes the
+/// first value out. Checks the list after each edit.
 fn check_replaced(alloc: Global, values: &mut Values, count: u32) -> Result<(), Fail> {
     run(values, put_many(alloc, 3)?)?;
     check(values, 0, 3)?;

@@ -155,7 +155,7 @@ fn resolve_each<L: LinkStore>(
     Ok(done)
 }
 
-/// Loads the texts, and resolves all proxies one by one, in an order that is chosen by a seed. Checks that none is left, and that each
+/// Loads the texts, and resolves all proxies one by one, in an order that is chosen by a seed. Checks that no proxy is left, and that each
 /// resource is saved as its text again.
 fn check_one_by_one<L: LinkStore>(
     alloc: Global,

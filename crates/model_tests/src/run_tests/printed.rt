@@ -5,7 +5,7 @@ use script_streams::RunFault;
 use std::alloc::{AllocError, Global};
 use std::test::Fail;
 
-/// Whether the output is `text` after the text `= ` and then the value were printed.
+/// Prints `= ` and then the value, and returns whether the output is `text`.
 fn is_value(alloc: Global, value: &Value, text: &str) -> Result<bool, AllocError> {
     let mut output = Output::new(alloc);
     output.text("= ")?;

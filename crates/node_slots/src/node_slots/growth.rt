@@ -35,7 +35,8 @@ impl NodeSlots {
         }
     }
 
-    /// How many more ends can be added, in reserved capacity, to the ends with no opposite that have a node as a value.
+    /// How many more entries of a node can be added in reserved capacity. The entries of a node are the ends with no opposite that have the
+    /// node as a value.
     #[tactic(auto, unfolding(crate::specs::Cells::room))]
     fn entries(&self, node: Node) -> usize
         ensures { result ≡ (room self.now).entries node }
@@ -93,9 +94,9 @@ impl NodeSlots {
         }
     }
 
-    /// Takes back the capacity that is reserved at each end to which an edit adds something. If `is_done`, an earlier edit has already
-    /// taken back the capacity at the end that `edit` names, and this capacity is not taken back again. An end from which a cut takes a
-    /// value may get labels, so that the cut finds the value.
+    /// Takes back the capacity that is reserved at each end to which an edit adds a value, and at each node to which it adds an entry. If
+    /// `is_done`, the capacity at the end that `edit` names was already taken back for an earlier edit, and is not taken back again. An end
+    /// from which a cut takes a value may get labels, so that the cut finds the value fast.
     fn forget_edit(&mut self, edit: &Edit, is_done: bool)
         ensures { cells self.new ≡ cells self.old }
     {
@@ -112,7 +113,7 @@ impl NodeSlots {
         }
     }
 
-    /// Takes back the capacity that is reserved at each end to which a plan adds something.
+    /// Takes back the capacity that is reserved at each end to which a plan adds a value, and at each node to which it adds an entry.
     fn forget_plan(&mut self, plan: &[Edit])
         ensures { cells self.new ≡ cells self.old }
     {
@@ -204,7 +205,7 @@ impl NodeSlots {
         self.promise_far_at(object, row_index, opposite)
     }
 
-    /// Reserves capacity at each end to which an edit adds something.
+    /// Reserves capacity at each end to which an edit adds a value, and at each node to which it adds an entry.
     fn promise_edit(&mut self, edit: &Edit) -> Result<(), AllocError>
         ensures cells { cells self.new ≡ cells self.old }
         ensures ok { OnOk result (HasGained (λ e. gain e edit.now) (λ n. entry n edit.now) (room self.old) (room self.new)) }

@@ -54,7 +54,7 @@ impl<L: LinkStore, A: Adapter> Repository<L, A> {
 
     /// Gives an adapter one more target, flat or deep (EMF: Notifier.eAdapters().add of an adapter that is attached elsewhere). The adapter
     /// gets each notification once, even if the notifier is below several deep targets of the adapter, or is a target itself and also below
-    /// a deep one. If the node is a target of the adapter already, the call returns false and nothing changes: a flat target stays flat,
+    /// a deep target. If the node is a target of the adapter already, the call returns false and nothing changes: a flat target stays flat,
     /// and a deep target stays deep.
     ///
     /// Refused, the first that applies: `NoObject`, `NoResource`, `Limit` if there are 100,000 targets, `NoAdapter` if no adapter with this

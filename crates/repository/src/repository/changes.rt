@@ -66,10 +66,11 @@ impl<L: LinkStore, A: Adapter> Repository<L, A> {
         }
     }
 
-    /// Unsets a feature of an object (EMF: EObject.eUnset): a single attribute gets its default, a single reference becomes null, a list
+    /// Unsets a feature of a node (EMF: EObject.eUnset): a single attribute gets its default, a single reference becomes null, a list
     /// becomes empty, and the opposite ends change too. Notifies the adapters at each opposite end, and then the adapters at the feature.
     /// If the feature is single, the adapters at the feature are notified of UNSET, whether the feature was set or not. If the feature is a
-    /// list, they are notified of one REMOVE for each value, from the last value to the first.
+    /// list, they are notified of one REMOVE for each value, from the last value to the first. At each end, the deep adapters above it are
+    /// notified too.
     ///
     /// Refused, the first that applies: `NoObject`, `NoResource`, `NoFeature`, `AdapterFull`, `Memory`.
     pub fn e_unset(&mut self, node: Node, feature: FeatureNo) -> Result<Reply<A>, Refused>
@@ -80,8 +81,8 @@ impl<L: LinkStore, A: Adapter> Repository<L, A> {
 
     /// Destroys an object and all objects below it, and takes each of them out of every end that has it as a value (EMF: EcoreUtil.delete,
     /// recursively). No other object ever gets the number of a destroyed object. If ends of other nodes lose values, the adapters at these
-    /// ends and the deep adapters above them are notified: in the order of feature numbers, then of nodes, then of positions, and last at
-    /// the end that contained the object. Then each adapter loses its targets that were destroyed. The adapter is notified of
+    /// ends and the deep adapters above them are notified. The order is by feature number, then by node, then by position; the end that
+    /// contained the object comes last. Then each adapter loses its targets that were destroyed. The adapter is notified of
     /// REMOVING_ADAPTER from each of these targets, and is given back if it has no other target. Returns how many objects were destroyed.
     ///
     /// Refused, the first that applies: `NoObject`, `AdapterFull`, `Memory`.
@@ -158,8 +159,8 @@ impl<L: LinkStore, A: Adapter> Repository<L, A> {
     }
 
     /// Carries out a change that is not refused early, from its plan to its reply. In `is_heard` the caller passes whether an adapter may
-    /// have to be notified; if not, no notification is made. If the change loads a document, its effect is that of `load` for any text that
-    /// is read as this document. The function is never inlined: else its callers would zero the stack slots of all kinds of edits.
+    /// have to be notified; if not, no notification is made. If the change loads a document, the call does what `load` does with any text
+    /// that is read as this document. The function is never inlined: else its callers would zero the stack slots of all kinds of edits.
     #[inline(never)]
     pub(super) fn carry_out<E: Planned>(
         &mut self,

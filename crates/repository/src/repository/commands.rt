@@ -107,8 +107,8 @@ impl<L: LinkStore, A: Adapter> Repository<L, A> {
         }
     }
 
-    /// Does commands one after another, and goes on after a refused command. If there is no memory for their outcomes, the commands are
-    /// given back, and none of them was done.
+    /// Does commands one after another, and goes on after a refused command. If there is no memory for the outcomes, no command is done,
+    /// and the commands are given back.
     pub fn run_all(
         &mut self,
         commands: Vec<Command<A>>,

@@ -38,8 +38,9 @@ impl<L: LinkStore, A: Adapter> Repository<L, A> {
         }
     }
 
-    /// Takes the value at an index out of a list, and returns it (EMF: EList.remove). A link is cut at both ends. First the adapters at the
-    /// opposite end are notified, of SET to null or of REMOVE, and then the adapters at the list, of REMOVE.
+    /// Takes the value at an index out of a list, and returns it (EMF: EList.remove). A link is cut at both ends. The adapters at the
+    /// opposite end, if there is one, are notified first, of SET to null or of REMOVE. Then the adapters at the list are notified of
+    /// REMOVE. At each end, the deep adapters above it are notified too.
     ///
     /// Refused, the first that applies: `NoObject`, `NoResource`, `NoFeature`, `NotMany`, `Index` if no value is at the index,
     /// `AdapterFull`, `Memory`.
@@ -55,8 +56,9 @@ impl<L: LinkStore, A: Adapter> Repository<L, A> {
     }
 
     /// Takes the first occurrence of a value out of a list, and returns whether there was one (EMF: EList.remove). If there was none,
-    /// nothing changes and no adapter is notified. Otherwise first the adapters at the opposite end are notified, of SET to null or of
-    /// REMOVE, and then the adapters at the list, of REMOVE.
+    /// nothing changes and no adapter is notified. Otherwise the adapters at the opposite end, if there is one, are notified first, of SET
+    /// to null or of REMOVE. Then the adapters at the list are notified of REMOVE. At each end, the deep adapters above it are notified
+    /// too.
     ///
     /// Refused, the first that applies: `NoObject` if the node or the value is an object that does not live, `NoResource`, `NoFeature`,
     /// `NotMany`, `WrongType`, `TextLength`, `AdapterFull`, `Memory`.
@@ -72,7 +74,8 @@ impl<L: LinkStore, A: Adapter> Repository<L, A> {
     }
 
     /// Moves the value at the index `from` of a list, so that the value is then at the index `to`, and returns the value (EMF: EList.move).
-    /// The adapters at the list are notified of MOVE, even if both indexes are the same. The opposite ends stay as they are.
+    /// The adapters at the list and the deep adapters above it are notified of MOVE, even if both indexes are the same. The opposite ends
+    /// stay as they are.
     ///
     /// Refused, the first that applies: `NoObject`, `NoResource`, `NoFeature`, `NotMany`, `Index` if one of the two indexes is past the
     /// last value, `AdapterFull`, `Memory`.

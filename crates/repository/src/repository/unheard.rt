@@ -79,8 +79,8 @@ impl<L: LinkStore, A: Adapter> Repository<L, A> {
     }
 
     /// Adds a value to a list as `add` does. An addition to a reference gives `Unheard` if the addition is refused before planning, or if
-    /// it puts one link, displaces no other link and notifies no adapter. Any other addition gives `Replied`. If `Unheard` has no refusal,
-    /// the list has changed.
+    /// it puts one link, displaces no other link and notifies no adapter; memory may be refused for this put. Any other addition gives
+    /// `Replied`. If `Unheard` has no refusal, the list has changed.
     #[inline(always)]
     pub fn add_brief(
         &mut self,
@@ -101,8 +101,8 @@ impl<L: LinkStore, A: Adapter> Repository<L, A> {
         Brief::Replied(self.change(Change::At(end, Act::Add(value, index))))
     }
 
-    /// Does an act at a reference; the act is not refused early. The function is never inlined into the code of a change that notifies no
-    /// adapter: that code would then zero the stack slots of a `Change`.
+    /// Does an act at a reference. The act is no `Resolve`, and is not refused early. The function is never inlined into the code of a
+    /// change that notifies no adapter: that code would then zero the stack slots of a `Change`.
     #[inline(never)]
     fn displace(&mut self, end: End, act: Act) -> Brief<A>
         requires reference { (shape self.old.model.metamodel end.feature).is_reference ≡ true }
@@ -199,8 +199,8 @@ impl<L: LinkStore, A: Adapter> Repository<L, A> {
     }
 }
 
-/// Replaces the values of an attribute of a node by one value. Does nothing if the node is a resource, since resources have no attributes.
-/// Fails only if memory is refused, and then nothing that contracts see has changed.
+/// Replaces the values of an attribute of a node by one value, and the set flag of the attribute by `flag`. Does nothing if the node is a
+/// resource, since resources have no attributes. Fails only if memory is refused, and then nothing that contracts see has changed.
 #[inline(always)]
 fn put_value(values: &mut Values, end: End, value: Value, flag: bool) -> Result<(), AllocError>
     ensures ok { OnOk result (values_of values.new ≡ values_after_edits (values_of values.old) (put_values end (value ∷ []) flag)) }

@@ -39,8 +39,8 @@ impl<L: LinkStore, A: Adapter> Interpreter<L, A> {
         }
     }
 
-    /// Reads the value at an index of a list, and returns how the read is counted. From then on `text` returns the value, as `get` prints
-    /// the value of a single feature, or the refusal.
+    /// Reads the value at an index of a list, and returns how the read is counted. From then on `text` returns the value, printed as `get`
+    /// prints the value of a single feature. If the read is refused, `text` returns the refusal.
     ///
     /// Fails only if memory is refused for the text.
     pub fn list_value(&mut self, node: Node, feature: &str, index: u32) -> Result<Turn, AllocError>

@@ -31,5 +31,5 @@ pub returns : goal.returns
 returns g c =
     let none = nothing-destroyed c.args.change.now c.args.removal.now c.requires.allowed.removal.whose c.in_default.not-Some in
     let unloaded = nothing-loaded c.args.change.now c.in_default-change.not-Load in
-    let is = made-chain c.args.model.now c.args.change.now c.args.link_ends.now c.in_ok-feature_changes.feature_changes.items c.requires.allowed.one c.lemma_is_legal.ensures none unloaded c.requires.allowed.asked c.requires.allowed.allowed c.requires.cut c.in_ok-feature_changes.ensures in
+    let is = made-chain c.args.model.now c.args.change.now c.args.link_ends.now c.requires.allowed.one c.lemma_is_legal.ensures none unloaded c.requires.allowed.asked c.requires.allowed.allowed c.requires.cut in
     subst (λ x. OnOk c.notices.result (c.notices.new.chain ≡ c.args.chain.now ++ x)) is c.notices.ensures

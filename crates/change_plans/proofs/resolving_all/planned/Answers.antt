@@ -5,7 +5,7 @@ use Rattle.handshake.specs.FeatureChange.{notice_at}
 use Rattle.change_plans.specs.declared.planned.Finding.TheVariants.{Counts}
 use Rattle.change_plans.proofs.AllPlannedLemmas.{all-planned}
 use Rattle.change_plans.proofs.resolving_all.planned.Goals as goal
-use Rattle.change_plans.proofs.resolving_all.planned.Goals.{then-is_heard+in_ok-feature_changes+in_ok-notices, else-is_heard}
+use Rattle.change_plans.proofs.resolving_all.planned.Goals.{then-is_heard+in_ok-resolved_notices, else-is_heard}
 
 pub returns : goal.returns
 returns g c =
@@ -16,6 +16,6 @@ returns g c =
     all-planned c.args.is_heard c.args.model.now _ c.lemma_is_legal.ensures c.args.progress.now c.requires.done c.args.leads.now c.requires.all js c.as_slice-joints.ensures.value counts
     (c.from_vec.ensures ∙ c.in_ok-edits.ensures) c.none.ensures
     (elim c.if-is_heard.branch [
-      | then-is_heard+in_ok-feature_changes+in_ok-notices w ↦ w.chain-is ∙ w.in_ok-notices.ensures ∙ (λ i. c.new-chain.ensures i ++ map (notice_at r) (w.in_ok-feature_changes.ensures i)) ∙ sym (ap (λ (b : Bool). if b then told else []) w.if-is_heard.true)
+      | then-is_heard+in_ok-resolved_notices w ↦ w.chain-is ∙ w.in_ok-resolved_notices.ensures ∙ ap (λ ns. ns ++ told) c.new-chain.ensures ∙ sym (ap (λ (b : Bool). if b then told else []) w.if-is_heard.true)
       | else-is_heard w ↦ w.chain-is ∙ c.new-chain.ensures ∙ sym (ap (λ (b : Bool). if b then told else []) w.if-is_heard.false)
     ])
