@@ -1,5 +1,5 @@
--- The result of reserving a chain: a round that fits the adapters and their capacities, or a refusal. The refusal is `Memory`; or it is
--- `AdapterFull`, if an adapter can't count its copies and a last notification from each of its targets.
+-- The result of reserving a chain: a round that fits the adapters and their capacities, or a refusal. The refusal is `Memory`, or it is
+-- `AdapterFull` and some adapter can't count its notifications of the chain and a last notification from each of its targets.
 use Rattle.std.specs.Prelude.{◌≡◌, ℕ, ◌≤◌, false, List, slice_index, Result, Ok, Err, IfErr, IfOk, OnOk}
 use Rattle.mm_types.specs.declared.refused.Refused.{Refused}
 use Rattle.mm_types.specs.declared.refused.Refused.TheVariants.{AdapterFull}

@@ -114,8 +114,8 @@ pub(crate) fn push_in_order(
     push_objects(&source, objects, edits)
 }
 
-/// For each object of the document, adds the edits that bring the lists of the higher features of pairs into the order of the document. The
-/// number of an object in the document is its index in `objects`.
+/// For each object of the document, adds the edits that bring the objects under the higher features of pairs into the order of the
+/// document. The number of an object in the document is its index in `objects`.
 fn push_objects(
     source: &LoadContext,
     objects: &[DocObject],
@@ -132,7 +132,7 @@ fn push_objects(
     Ok(())
 }
 
-/// For one object, adds the edits that bring the lists of the higher features of pairs into the order of the document.
+/// For one object, adds the edits that bring the objects under the higher features of pairs into the order of the document.
 fn push_object(
     source: &LoadContext,
     object: ObjectNo,
@@ -149,8 +149,8 @@ fn push_object(
     Ok(())
 }
 
-/// If `content.feature` is the higher feature of a pair, and the objects among its values are not in the order of their numbers, adds the
-/// edits that bring the values into the order of the document.
+/// If `content.feature` is the higher feature of a pair, and the objects among `content.values` are not in the order of their numbers, adds
+/// the edits that bring these objects into the order of the document.
 fn push_content(
     source: &LoadContext,
     object: ObjectNo,

@@ -17,7 +17,7 @@ pub enum JournalFault {
     Failed,
     /// The file is no journal.
     NoJournal,
-    /// The journal was begun with a different metamodel.
+    /// The journal was begun with a metamodel document that differs from the present one in at least one byte.
     OtherMetamodel,
     /// The line of this number was not done when it was run again, or is no line that a journal keeps. The head is line 1.
     Line(u64),

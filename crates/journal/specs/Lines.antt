@@ -4,7 +4,7 @@ use Rattle.std.specs.Borrow.{Bor}
 use Rattle.std.specs.List.{All}
 use Rattle.journal.specs.declared.entries.TheConstants.{MARK, NEWLINE}
 
--- the lines with the byte c put before the first line; no lines if there is no line
+-- the lines, with the byte c added at the beginning of the first line; no lines if there is no line
 abbrev pub with_byte : ℕ → List (List ℕ) → List (List ℕ)
 with_byte c [] = []
 with_byte c (l ∷ ls) = (c ∷ l) ∷ ls

@@ -53,7 +53,7 @@ impl Ends {
         self.namings.contains(&naming)
     }
 
-    /// Adds the naming by one value, if the value is an object.
+    /// Adds that `object` names `value` under `feature`, if `value` is an object.
     fn add_value(
         &mut self,
         object: usize,
@@ -72,7 +72,7 @@ impl Ends {
         }
     }
 
-    /// Adds the namings by the values under a feature of an object.
+    /// Adds, for each of `values` that is an object, that `object` names it under `feature`.
     fn add_values(
         &mut self,
         object: usize,
@@ -87,7 +87,7 @@ impl Ends {
         Ok(())
     }
 
-    /// Adds the namings by all values of an object.
+    /// Adds, for each value of `contents` that is an object, that `object` names it under the feature of the content.
     fn add_object(&mut self, object: usize, contents: &[Content]) -> Result<(), AllocError>
         ensures { OnOk result ((k : Naming) → has self.new k ≡ has self.old k || by_contents object contents.now k) }
     {

@@ -42,9 +42,10 @@ impl<A: Adapter> AdapterList<A> {
         detached
     }
 
-    /// Takes targets from adapters, one after another. The adapter of a target loses the target, and gets its last notification from it. An
-    /// element of `release` whose node is no target of its adapter is skipped. Then the adapters whose last target was taken away are given
-    /// back, in attach order. Returns which adapter was notified of what, and the adapters that are given back. Takes no memory.
+    /// Takes targets from adapters, one after another. Each element of `release` names an adapter and a node. If the node is a target of
+    /// the adapter, the adapter loses this target, and gets its last notification from the node. Otherwise the element is skipped. Then the
+    /// adapters whose last target was taken away are given back, in attach order. Returns which adapter was notified of what, and the
+    /// adapters that are given back. Takes no memory.
     pub fn release(
         &mut self,
         release: Release<A>,
