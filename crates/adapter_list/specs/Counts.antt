@@ -48,7 +48,7 @@ pub record IsFirstFull (rs : List Listed) (ps : List ℕ) (cs : List (ℕ × Not
 abbrev pub ordinals : List (ℕ × Notice) → List ℕ
 ordinals cs = map (λ c. c.0) cs
 
--- whether the index k is greater than the index before it, or is the first index
+-- whether k is greater than j, the index that comes before k in a list of indexes; true if no index comes before k
 abbrev pub is_after : Option ℕ → ℕ → Bool
 is_after None k = true
 is_after (Some j) k = nat_lt j k
