@@ -1,5 +1,5 @@
 -- The roots of a resource are the objects of its end, in order, and they live.
-use Rattle.std.proofs.Common.{◌≡◌, ℕ, zero, suc, ◌<◌, true, List, [], ◌∷◌, ◌++◌, length, slice_get, slice_index_or, Option, option_to_list, arith, refl, ap, ◌∙◌}
+use Rattle.std.proofs.Common.{◌≡◌, ℕ, true, List, [], ◌∷◌, ◌++◌, length, slice_get, Option, option_to_list, arith, refl, ap, ◌∙◌}
 use Rattle.std.specs.Prelude.{IsTrue, option_and_then}
 use Rattle.std.specs.List.{list_all}
 use Rattle.std.specs.Option.{option_map_or}
@@ -18,7 +18,7 @@ use Rattle.links.specs.Links as links
 use Rattle.links.specs.Links.{end}
 use Rattle.models.specs.Legal.{IsLegal, is_legal_end, is_legal_target}
 use Rattle.models.specs.Model.{Model, reading, values_at}
-use Rattle.models.specs.Reading.{Reading, is_live, objects_of, roots_end}
+use Rattle.models.specs.Reading.{is_live, objects_of, roots_end}
 use Rattle.mm_types.specs.declared.numbers.ResourceNo.{ResourceNo}
 use Rattle.fragment_paths.specs.Finding.{roots}
 use Rattle.containment.proofs.PartLemmas.{taken-live, values-linked}
@@ -50,9 +50,3 @@ contents-refers m = ap (λ (x : Option Feature). (option_map_or (λ g. shape_of 
 -- the roots of a resource live
 pub roots-live : (s : Model) (k : ResourceNo) → IsLegal s → list_all (is_live (reading s)) (roots (reading s) k) ≡ true
 roots-live s k legal = all-live s (roots_end (reading s) k) legal (contents-refers s.metamodel)
-
--- each object of a list of live objects lives
-pub live-at : (r : Reading) (os : List ObjectNo) (k : ℕ) (d : ObjectNo) → k < length os → list_all (is_live r) os ≡ true → is_live r (slice_index_or os k d) ≡ true
-live-at r [] k d low all = absurd (omega (arith, low))
-live-at r (o ∷ os) zero d low all = (and_parts (is_live r o) _ all).0
-live-at r (o ∷ os) (suc k) d low all = live-at r os k d (omega (arith, low)) (and_parts (is_live r o) _ all).1

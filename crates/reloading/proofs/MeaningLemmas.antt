@@ -72,14 +72,6 @@ module _ (s : Model) (w : ValuesState) (c : Links) (legal : IsLegal s) (other : 
         let object = means-object (reading s) found.0 y found.2 (λ u is. none (at_end (node.Object o) f) u (stands vs k (value.Proxy u) (found.1 ∙ ap (λ (z : Value). Some z) is))) in
         (object.0, found.1 ∙ ap (λ (z : Value). Some z) object.1, object.2)
 
-    pub forth-at : (f : FeatureNo) (k : ℕ) (b : ObjectNo) (y : List ℕ) → slice_get (values_at s (at_end (node.Object o) f)) k ≡ Some (value.Object b) → address (reading s) b ≡ Some y
-        → (x : Value) × (slice_get (values_at t (at_end (node.Object p) f)) k ≡ Some x) × (meant_value (reading t) x ≡ By (Some y))
-    forth-at f k b y here at =
-        let vs = values_at t (at_end (node.Object p) f) in
-        let name : slice_get (map (meant_value (reading t)) vs) k ≡ Some (By (Some y)) =
-        ap (λ (xs : List Named). slice_get xs k) (same.values f) ∙ map-get (meant_value (reading s)) (values_at s (at_end (node.Object o) f)) k ∙ ap (option_map (meant_value (reading s))) here ∙ ap (λ (z : Option (List ℕ)). Some (By z)) at in
-        mapped-at (meant_value (reading t)) vs k (By (Some y)) name
-
     pub one-place : (f : FeatureNo) (j k : ℕ) (x z : Value) (y : List ℕ) → (shape s.metamodel f).is_reference ≡ true → slice_get (values_at t (at_end (node.Object p) f)) j ≡ Some x → meant_value (reading t) x ≡ By (Some y)
         → slice_get (values_at t (at_end (node.Object p) f)) k ≡ Some z → meant_value (reading t) z ≡ By (Some y) → j ≡ k
     one-place f j k x z y reference first means second means_too =

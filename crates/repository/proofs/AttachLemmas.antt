@@ -114,14 +114,8 @@ module _ (s : State) (c : Command View) (ss : List Spot) (a : Answer) (given : b
 ---------------------------------------------------------------- one target less
 
 module _ (s : State) (number : AdapterNo) (target : Node) where
-  pub nowhere_to_unwatch : (r : Refused) → node_refusal (reads s) target ≡ Some r → Executed s (Unwatch number target) (Err (record { refused = r; given_back = None })) s
-  nowhere_to_unwatch r e = rw (node-refused s target r e) (ap (step_unless s (Unwatch number target)) (ap (λ (o : Option Refused). (o else_by adapter_refusal s.adapters number) else_by (None else_by (AdapterFull where_so is_chain_full (reads s).above [] s.adapters))) e))
-
   unwatch-refusal : node_refusal (reads s) target ≡ None → refusal_of s (Unwatch number target) ≡ adapter_refusal s.adapters number
   unwatch-refusal there = ap (λ (o : Option Refused). (o else_by adapter_refusal s.adapters number) else_by (None else_by (AdapterFull where_so is_chain_full (reads s).above [] s.adapters))) there ∙ refusal_quiet (reads s).above (adapter_refusal s.adapters number) s.adapters
-
-  pub unwatched_unknown : node_refusal (reads s) target ≡ None → is_some (adapter number s.adapters) ≡ false → Executed s (Unwatch number target) (Err (record { refused = NoAdapter; given_back = None })) s
-  unwatched_unknown there none = ap (step_unless s (Unwatch number target)) (unwatch-refusal there ∙ ap (λ b. NoAdapter unless b) none)
 
   unwatch-free : node_refusal (reads s) target ≡ None → is_some (adapter number s.adapters) ≡ true → refusal_of s (Unwatch number target) ≡ None
   unwatch-free there known = unwatch-refusal there ∙ ap (λ b. NoAdapter unless b) known
@@ -133,10 +127,6 @@ module _ (s : State) (number : AdapterNo) (target : Node) where
       gone s (Unwatch number target) ((number, target) ∷ []) (answer.Flag (is_target number target s.adapters)) refl
       (ap (λ (q : Option Refused). not (option_map_or is_plain q false)) (unwatch-free there known)) (unwatch-free there known) refl o t
       (subst (λ (b : Answer). LetsGo s ((number, target) ∷ []) b o t) is went)
-
-  -- an unwatch that is refused for memory
-  pub unwatch_wanting : node_refusal (reads s) target ≡ None → is_some (adapter number s.adapters) ≡ true → Executed s (Unwatch number target) (Err (record { refused = Memory; given_back = None })) s
-  unwatch_wanting there known = record { may = ap (λ (q : Option Refused). not (option_map_or is_plain q false)) (unwatch-free there known); outcome = refl; state = refl }
 
 ---------------------------------------------------------------- detaching
 
@@ -194,13 +184,6 @@ module _ (s : State) (number : AdapterNo) where
 
   detach-free : (o : Option Listed) → adapter number s.adapters ≡ o → is_some o ≡ true → refusal_of s (Detach number) ≡ None
   detach-free o e some = refusal_quiet (reads s).above (NoAdapter unless is_some (adapter number s.adapters)) s.adapters ∙ ap (λ (q : Option Listed). NoAdapter unless is_some q) e ∙ ap (λ b. NoAdapter unless b) some
-
-  pub detached_unknown : None ≡ option_map (λ (r : Listed). r.targets) (adapter number s.adapters) → Executed s (Detach number) (Err (record { refused = NoAdapter; given_back = None })) s
-  detached_unknown none =
-      elim (adapter number s.adapters) as (λ o. adapter number s.adapters ≡ o → None ≡ option_map (λ (r : Listed). r.targets) o → Executed s (Detach number) (Err (record { refused = NoAdapter; given_back = None })) s) [
-        | None ↦ λ e _. ap (step_unless s (Detach number)) (refusal_quiet (reads s).above (NoAdapter unless is_some (adapter number s.adapters)) s.adapters ∙ ap (λ (q : Option Listed). NoAdapter unless is_some q) e)
-        | Some r ↦ λ _ some. absurd (none-some r.targets some)
-      ] refl none
 
   -- facts about an adapter that has these targets
   Known : List Target → Type 0

@@ -2,7 +2,6 @@
 use Rattle.std.proofs.Common.{◌≡◌, ℕ, Bool, true, false, not, ◌&&◌, List, [], ◌∷◌, Option, Some, None, is_some, if◌then◌else◌, refl, sym, ap, subst, ◌∙◌}
 use Rattle.std.specs.Option.{option_map_or}
 use Rattle.links.specs.declared.plan.Edit.TheVariants as edit
-use Rattle.std.proofs.Math.Bool.{or-false}
 use Rattle.std.proofs.lemmas.Option.{none-some}
 use Rattle.std.proofs.lemmas.Bool.{or_parts}
 use Rattle.mm_types.specs.declared.end.End.{End}
@@ -10,9 +9,6 @@ use Rattle.mm_types.specs.declared.numbers.Node.{Node}
 use Rattle.mm_types.specs.declared.numbers.Node.TheVariants as node
 use Rattle.mm_types.specs.declared.value.Value.{Value}
 use Rattle.mm_types.specs.declared.value.Value.TheVariants as value
-use Rattle.links.specs.Laws.{touches_containment}
-use Rattle.links.specs.LegalSets.{Kinds}
-use Rattle.links.specs.Plans.{IsEditOfKind}
 use Rattle.models.specs.Model.{Model, reading}
 use Rattle.models.specs.Reading.{Reading, is_repeat, position_for, shape_at}
 use Rattle.notice_chain.specs.Listed.{Listed}
@@ -92,7 +88,3 @@ pub set-ready : (s : State) (m : Model) (e : End) (v : Value) (q : Option NewLin
 set-ready s m e v q p is none early found some plan =
     let c : Change = At e (Set v) in
     ready-put s c p answer.Done (subst (λ (x : Model). early_refusal (reading x) c ≡ None) is early) tt (subst (λ (x : Model). IsPlanOf false x c (of_put p)) is plan) refl (put-unheard s c p (subst (λ (x : Model). lone_put (reading x) c ≡ Some p) is (sym found ∙ some)) none)
-
--- a put makes a containing link if it names a container
-pub put-touches : (m : Kinds) (p : NewLink) → IsEditOfKind m (edit.Put p) → touches_containment m (edit.Put p ∷ []) ≡ is_some p.container
-put-touches m p kind = or-false (is_some (m.container p.end.feature)) ∙ ap is_some (sym kind.1)

@@ -65,11 +65,6 @@ pub record IsAsked (s : State) (text : List ℕ) (c : Change) : Type 0 where
   pub early : early_refusal (reads s) c ≡ None
   pub proper : IsProper (reads s) text c
 
--- facts about the abstract state hold for the state of the repository
-pub asked-of : (s v : State) (text : List ℕ) (c : Change) → s ≡ v → early_refusal (reads v) c ≡ None → IsProper (reads v) text c → IsAsked s text c
-asked-of s v text c seen early proper =
-    record { early = subst (λ (t : State). early_refusal (reads t) c ≡ None) (sym seen) early; proper = subst (λ (t : State). IsProper (reads t) text c) (sym seen) proper }
-
 full : State → Change → Option Refused
 full s c = AdapterFull where_so is_chain_full (reads s).above (chain (reads s) c) s.adapters
 

@@ -5,7 +5,7 @@ use Rattle.std.specs.Option.{option_map_or}
 use Rattle.mm_types.specs.Conditions.{◌else_by◌, ◌unless◌, ◌where_so◌, is_memory_refusal}
 use Rattle.mm_types.specs.declared.limits.TheConstants.{RESOURCES}
 use Rattle.mm_types.specs.declared.refused.Refused.{Refused}
-use Rattle.mm_types.specs.declared.refused.Refused.TheVariants.{AdapterFull, BadUri, Limit, Memory, ResourceExists, TextLength}
+use Rattle.mm_types.specs.declared.refused.Refused.TheVariants.{AdapterFull, BadUri, Limit, ResourceExists, TextLength}
 use Rattle.notice_chain.specs.Listed.{is_chain_full, tell_chain, told_list}
 use Rattle.notice_chain.specs.Released.{Released, released_adapters}
 use Rattle.web_uris.proofs.JoinFacts.{joined_uri-web}
@@ -52,9 +52,6 @@ module _ (s : State) where
   may-want-resource : (t : List ℕ) → IsTrue (may_want_memory s (CreateResource t))
   may-want-resource t = ap (λ (o : Option Refused). not (option_map_or is_plain o false)) (refusal-asked t) ∙ ap not (asked-not-plain (is_short_text t) (joined_uri [] t))
 
-  pub resource_out_of_memory : (t : List ℕ) → Executed s (CreateResource t) (Err (record { refused = Memory; given_back = None })) s
-  resource_out_of_memory t = record { may = may-want-resource t; outcome = refl; state = refl }
-
   resource-refused_step : (t : List ℕ) (r : Refused) → is_memory_refusal r ≡ false → asked (is_short_text t) (joined_uri [] t) ≡ Some r → Executed s (CreateResource t) (Err (record { refused = r; given_back = None })) s
   resource-refused_step t r other found = rw other (ap (step_unless s (CreateResource t)) (refusal-asked t ∙ found))
 
@@ -66,12 +63,6 @@ module _ (s : State) where
   unfolding asked
   no-uri true room = rw room refl
   no-uri false room = rw room refl
-
-  pub no_uri : (t : List ℕ) → is_short_text t ≡ true → joined_uri [] t ≡ None → nat_lt (length (reads s).uris) RESOURCES ≡ true → Executed s (CreateResource t) (Err (record { refused = BadUri; given_back = None })) s
-  no_uri t short none room = resource-refused_step t BadUri refl ((λ i. asked (short i) (none i)) ∙ no-uri true room)
-
-  pub no_room : (t : List ℕ) → is_short_text t ≡ true → joined_uri [] t ≡ None → nat_lt (length (reads s).uris) RESOURCES ≡ false → Executed s (CreateResource t) (Err (record { refused = Limit; given_back = None })) s
-  no_room t short none room = resource-refused_step t Limit refl ((λ i. asked (short i) (none i)) ∙ no-uri false room)
 
   ---------------------------------------------------------------- a text and the URI that it gives
 

@@ -32,10 +32,6 @@ node_reference : (n : Node) → IsObject n → IsReference (node_value n)
 node_reference (node.Object o) is = tt
 node_reference (node.Resource r) is = absurd is
 
-reference_node : (n : Node) → IsReference (node_value n) → IsObject n
-reference_node (node.Object o) is = tt
-reference_node (node.Resource r) is = absurd is
-
 far_reference : (e : End) (x : Far) → HasTwoSides e x → IsReference (far_value x)
 far_reference e (At d j) two = node_reference d.node two.2
 far_reference e (Alone o) two = tt
