@@ -101,6 +101,15 @@ impl Output {
         if n < 1_000 {
             return self.short_natural(n);
         }
+        self.long_natural(n)
+    }
+
+    /// Adds a number in decimal, by way of a buffer. The function is never inlined into the code that adds a short number, since that code
+    /// would then clear the buffer too.
+    #[inline(never)]
+    fn long_natural(&mut self, n: u64) -> Result<(), AllocError>
+        ensures ok { OnOk result (self.new ≡ self.old ++ decimal n) }
+    {
         let mut buffer = itoa::Buffer::new();
         self.text(buffer.format(n))
     }
