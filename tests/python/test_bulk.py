@@ -55,6 +55,29 @@ class Batches(LibraryTest):
         self.assertEqual([getattr(it, 'name', it) for it in batch.answers], ['TYPE', None, 'NO_FEATURE'])
         self.assertEqual(book.pages, 7)
 
+    def test_a_callable_fails(self):
+        """If a callable raises an error, all commands are done, and `answers` has their results."""
+        book, = self.made('Book')
+        for error, raised in ((KeyError, CallableFailed), (KeyboardInterrupt, KeyboardInterrupt)):
+            def fails(notice):
+                seen.append(list(batch.answers))
+                raise error
+
+            seen = []
+            view = self.repo.attach(fails, book)
+            with self.subTest(error), self.assertRaises(raised):
+                with self.repo.batch() as batch:
+                    made = batch.create('Book')
+                    batch.set(book, 'pages', 7)
+                    batch.set(book, 'pages', 'many')
+                    batch.append(book.tags, error.__name__)
+            refused = batch.answers[2]
+            self.assertEqual((batch.answers, refused.name), ([made, None, refused, True], 'TYPE'))
+            self.assertEqual(seen, [batch.answers] * 2)
+            with self.assertRaises(raised):
+                view.detach()
+        self.assertEqual((book.pages, list(book.tags)), (7, ['KeyError', 'KeyboardInterrupt']))
+
     def test_nothing_is_sent(self):
         """A wrong argument raises an error at once."""
         other = self.opened().create('Book')

@@ -50,8 +50,8 @@ class Properties(TownTest):
         self.until('mmrepo.model.nodes.get(2).values.note === "x\\ny"')
 
     def test_enumeration_and_lists(self):
-        """A literal is chosen; values of lists are added, moved, dragged and removed; a repeated value and one past the upper bound are
-        refused."""
+        """A literal is chosen; values of lists are added, moved, dragged and removed; a repeated value, which Escape clears, and one past the
+        upper bound are refused."""
         self.select(EMMA)
         self.browser.choose('#f-genre', 'POEM')
         self.until('mmrepo.model.nodes.get(2).values.genre === "POEM"')
@@ -60,6 +60,9 @@ class Properties(TownTest):
         self.browser.type('#f-tags', 'love', 'Keys.ENTER')
         self.assertEqual(self.refusal('tags'), 'DUPLICATE: tags has love already')
         self.assertEqual(self.js("return document.querySelector('#f-tags').value;"), 'love')
+        self.browser.type('#f-tags', 'Keys.ESCAPE')
+        self.assertEqual(self.js("return document.querySelector('#f-tags').value;"), '')
+        self.assertEqual(self.texts('[data-feature="tags"] .refusal'), [''])
         self.browser.click('[data-feature="tags"] li:nth-child(3) [aria-label="Move up tags 2"]')
         self.until('mmrepo.model.nodes.get(2).values.tags[1] === "new"')
         self.browser.click('[data-feature="tags"] li:nth-child(1) [aria-label="Move down tags 0"]')

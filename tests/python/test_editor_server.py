@@ -115,6 +115,15 @@ class Hostile(ServerTest):
         Path(self.room.name, 'models/link.json').unlink()
         self.assertEqual(sorted(Path(self.room.name).rglob('*')), before)
 
+    def test_a_file_that_was_not_loaded(self):
+        """No new file gets the name of a file that could not be loaded, even if that file is gone."""
+        self.stop()
+        folder = self.write('bad.json', 'no JSON')
+        self.start(folder)
+        self.assertEqual(self.call('new file', folder=0, name='bad.json'), 'FILE: there is a file bad.json already')
+        Path(folder, 'bad.json').unlink()
+        self.assertRegex(self.call('new file', folder=0, name='bad.json'), '^FILE: bad.json is not loaded: 1 finding\nbad.json: from byte 1 on ')
+
     def test_methods_and_heads(self):
         """Unknown methods, long request lines and bad headers each get the status that HTTP has for them, and a text."""
         get, big = f'GET /{self.token}/', 'x' * 70_000

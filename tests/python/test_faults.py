@@ -9,8 +9,10 @@ from support import LIBRARY, PROGRAM, ClientTest
 
 from mmrepo import (
     BadLine,
+    Finding,
     MetamodelRefused,
     MmrepoError,
+    NotLoaded,
     NotStarted,
     ProgramEnded,
     Refused,
@@ -302,6 +304,7 @@ class Errors(ClientTest):
         self.assertEqual(cut, f'refused 18 DOCUMENT 1 SYNTAX: load r0 {"x" * 192} ..')
 
     def test_pickled(self):
-        for error in (Refused('new X', 3, 'NO_CLASS'), ProgramEnded('why', 3, 'said'), MetamodelRefused('a', '1 SYNTAX'), BadLine('x')):
+        errors = [Refused('new X', 3, 'NO_CLASS'), ProgramEnded('why', 3, 'said'), MetamodelRefused('a', '1 SYNTAX'), BadLine('x')]
+        for error in (*errors, NotLoaded([Finding('a.json', 'FILE', '', 'why')], 'a.json')):
             again = pickle.loads(pickle.dumps(error))
             self.assertEqual((type(again), str(again), vars(again)), (type(error), str(error), vars(error)))

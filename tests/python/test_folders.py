@@ -7,7 +7,7 @@ from unittest import mock
 from folder_support import BASE, FolderTest
 from support import LIBRARY, PROGRAM, LibraryTest
 
-from mmrepo import NotOpened, Repository, ToolFailed
+from mmrepo import NotLoaded, NotOpened, Repository, ToolFailed
 from mmrepo.uris import checked_base, name_of, shortened, uri_of
 from mmrepo.xmi import tool_file
 
@@ -115,12 +115,32 @@ class Opening(FolderTest):
         self.assertEqual([it.file for it in found.exception.folder.findings], ['bad.json'])
         self.assertIn('1 finding\nbad.json: from byte', str(found.exception))
 
+    def test_not_loaded(self):
+        """A resource is not made for a file that could not be loaded: the error has the findings of the file."""
+        self.write('bad.json', '{"format":2,"roots":[{"class":"Boook","features":{}}]}')
+        self.write('latin.json', b'\xe9')
+        folder = self.repo.open(self.top)
+        resources = self.repo.resources
+        self.assertEqual([it.file for it in folder.findings], ['bad.json', 'latin.json'])
+        for finding in folder.findings:
+            with self.subTest(finding.file), self.assertRaises(NotLoaded) as found:
+                folder.resource(finding.file)
+            self.assertEqual(found.exception.findings, [finding])
+            self.assertEqual(str(found.exception), f'{finding.file} is not loaded: 1 finding\n{finding.line}')
+        self.assertEqual((self.repo.resources, self.repo.save_all(force=True)), (resources, []))
+        with self.refused(16, 'RESOURCE_EXISTS'):
+            folder.resource('town.json')
+
     def test_taken(self):
         """A file whose URI a resource has already is a finding."""
         self.repo.open(self.top)
-        self.assertEqual(self.lines(self.repo.open(self.top)), [
+        again = self.repo.open(self.top)
+        self.assertEqual(self.lines(again), [
             f'{name}: the repository has a resource of its URI; give a different base' for name in ('alone.json', 'sub/b.json', 'town.json')
         ])
+        with self.assertRaises(NotLoaded) as found:
+            again.resource('town.json')
+        self.assertEqual(found.exception.findings, again.findings[2:])
 
     def test_no_room(self):
         """Files whose objects are more than a repository makes are findings."""

@@ -97,9 +97,9 @@ class Lines(ShellTest):
         ))
 
     def test_new_resource(self):
-        """A new resource is shown by `tree`."""
-        self.assertEqual(self.shell('resource "http://m.example/a"\nnew Book\nadd r0 contents #0\ntree\n')[1].splitlines()[-2:], [
-            'r0 http://m.example/a', '└── [0] #0 Book'
+        """A new resource is shown by `tree`, with the URI that the repository gives it."""
+        self.assertEqual(self.shell('resource "HTTP://M.example"\nnew Book\nadd r0 contents #0\ntree\n')[1].splitlines()[-2:], [
+            'r0 http://m.example/', '└── [0] #0 Book'
         ])
 
     def test_script(self):
@@ -130,6 +130,13 @@ class Lines(ShellTest):
         self.assertEqual(self.shell('set #1 pages 3\nquit\nquit\nnew Book\n', 'models')[1], 'r0 models/town.json\nok\n')
         self.assertEqual(self.shell('set #1 pages 3\n', 'models')[2], 'not saved: models/town.json\n')
         self.assertEqual(self.town.read_text(), text)
+
+    def test_quit_after_a_warning(self):
+        """Only a second `quit` right after the first ends the shell: after any other line `quit` warns again."""
+        status, out, said = self.shell('set #1 pages 3\nquit\nsaveall\nset #1 pages 4\nquit\nget #1 pages\nquit\nexit\nnew Book\n', 'models')
+        self.assertEqual((status, out), (0, 'r0 models/town.json\nok\nsaved models/town.json\nok\n4\n'))
+        self.assertEqual(said, 'not saved: models/town.json; saveall writes them, and quit once more leaves them\n' * 3)
+        self.assertIn('"pages":3', self.town.read_text())
 
     def test_changed_by_others(self):
         """A file that others have changed is overwritten only by `saveall force`."""

@@ -22,6 +22,15 @@ class Together(LibraryTest):
         self.assertEqual(answers[205:], [['ok']] * 20_000 + [['19999']])
         self.assertEqual(self.session.raw_all([]), [])
 
+    def test_resources(self):
+        """The repository has the resources that lines have made, and knows them in later answers."""
+        lines = ['resource "http://M.example/a b"', '  resource   "http:\\/\\/m.example/\\u0062"  ', 'resource "http://m.example/b"', 'resource r7']
+        answers = self.session.raw_all([*lines, 'new Book', 'add r1 contents #0', 'within #0'])
+        self.assertEqual(answers, [['r0'], ['r1'], ['refused 16 RESOURCE_EXISTS'], ['bad line'], ['#0'], ['true'], ['r1']])
+        self.assertEqual([it.uri for it in self.repo.resources], ['http://m.example/a%20b', 'http://m.example/b'])
+        self.assertIs(self.repo.object(0).eResource, self.repo.resources[1])
+        self.assertEqual(self.repo.resource('http://m.example/c'), self.repo.resources[2])
+
     def test_nothing_is_sent(self):
         """If one line is too long or has a newline, no line is sent."""
         for wrong in ('new Book\n', 'x' * 16_777_217):

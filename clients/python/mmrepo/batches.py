@@ -24,8 +24,9 @@ class Batch:
 
     When the batch is sent, the objects are made first. Until then an object of `create` can be used only in the batch. If some
     objects are refused, the other objects are made, no other command is sent, the first Refused is raised, and `answers` stays
-    as it was. If no object is refused, all other commands are sent, even after one that is refused. When they are done, the
-    first Refused is raised.
+    as it was. If no object is refused, all other commands are sent, even after one that is refused. When they are done,
+    `answers` is set, the views are notified, and the first Refused is raised; but if a callable has raised an error, a
+    CallableFailed is raised.
 
     `answers` has the results in order: None for a change of a feature, a truth value for `append`, the object for `create`, how
     many objects were destroyed for `delete`, and the Refused for a command that was refused.
@@ -111,21 +112,24 @@ class Batch:
         If objects are refused, the other objects are made, no other command is sent, and the first Refused is raised. If a
         command other than `create` is refused, all commands are sent, and the first Refused is raised when they are done.
         """
-        calls, is_collecting = self._calls, gc.isenabled()
+        is_collecting = gc.isenabled()
         gc.disable()  # what is made here stays, and looking through it again and again takes as long as all else
         try:
             self._session.make(self._objects)
-            outcomes = self._session.outcomes(self._lines())
+            outcomes = self._session.outcomes(self._lines(), self._keep)
         finally:
             if is_collecting:
                 gc.enable()
             self._objects, self._calls = [], []
             self._verbs, self._nodes, self._tails = [], [], []
-        self.answers = [outcomes[it] if isinstance(it, int) else it for it in calls]
         for outcome in outcomes:
             if isinstance(outcome, MmrepoError):
                 raise outcome
         return self.answers
+
+    def _keep(self, outcomes: List[Any]) -> None:
+        """Sets the answers to the calls, by the results of the edits."""
+        self.answers = [outcomes[it] if isinstance(it, int) else it for it in self._calls]
 
     def __enter__(self) -> Batch:
         return self

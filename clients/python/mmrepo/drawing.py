@@ -8,7 +8,6 @@ from typing import Dict, Iterator, List, Optional, Tuple
 from .errors import shown
 from .metamodel import EAttribute, EClass, EReference, Metamodel
 from .session import Session
-from .values import value_of
 
 OBJECT = re.compile(r'#(?:0|[1-9][0-9]*)')
 NAMES = ('name', 'id')  # the attributes that name an object for a reader
@@ -22,7 +21,6 @@ class Drawing:
     def __init__(self, session: Session, metamodel: Metamodel) -> None:
         self._session, self._metamodel = session, metamodel
         self._classes: Dict[str, EClass] = {}
-        self.uris: Dict[str, str] = {}  # of resources, by their words
 
     def _ask(self, line: str) -> str:
         """The first line of an answer."""
@@ -41,7 +39,8 @@ class Drawing:
         """A node in one line, as `#1 Book "Emma"`."""
         eclass = self.class_of(word) if OBJECT.fullmatch(word) else None
         if eclass is None:
-            return f'{word} {self.uris[word]}' if word in self.uris else word
+            uri = self._session.uri_of(word)
+            return word if uri is None else f'{word} {uri}'
         for name in NAMES:
             feature = eclass.findEStructuralFeature(name)
             if isinstance(feature, EAttribute) and not feature.many:
@@ -100,11 +99,3 @@ class Drawing:
             if isinstance(feature, EReference) and not feature.many and OBJECT.fullmatch(answer):
                 answer = self.label(answer)
             yield f'  {feature.name} = {shown(answer)}' if is_set else f'  ({feature.name} = {shown(answer)})'
-
-
-def text_of(word: str) -> str:
-    """The text of a word in quotation marks. Raises a ValueError for any other word."""
-    value = value_of(word, str)
-    if not isinstance(value, str):
-        raise ValueError(f'{word} is no text')
-    return value

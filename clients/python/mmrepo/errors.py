@@ -156,14 +156,17 @@ class NotOpened(MmrepoError):
 
 
 class NotLoaded(MmrepoError):
-    """Files of a shard could not be loaded. `findings` give the reason for each file."""
+    """Files of a shard could not be loaded; or a resource was to be made for a file of a folder, and that file could not be loaded
+    when the folder was opened. `findings` give the reason for each file. `what` is the shard, or the name of the file.
+    """
 
-    def __init__(self, findings: Sequence[Finding]) -> None:
-        super().__init__(findings)
+    def __init__(self, findings: Sequence[Finding], what: str = 'the shard') -> None:
+        super().__init__(findings, what)
         self.findings = list(findings)
+        self.what = what
 
     def __str__(self) -> str:
-        return f'the shard is not loaded: {_counted(self.findings)}'
+        return f'{self.what} is not loaded: {_counted(self.findings)}'
 
 
 class NotSaved(MmrepoError):

@@ -117,14 +117,20 @@ class Exchange:
             self._hand_out()
         return found
 
-    def _asked_all(self, lines: Sequence[str], read: Callable[[str, str], T]) -> List[T]:
-        """The results of `read` for each line and the first line of its answer."""
+    def _asked_all(
+        self, lines: Sequence[str], read: Callable[[str, str], T], keep: Optional[Callable[[List[T]], None]] = None
+    ) -> List[T]:
+        """The results of `read` for each line and the first line of its answer. `keep` is called with them before the views are
+        notified.
+        """
         self.check()
         self.busy = True
         try:
             texts = self.engine.exchange_all(lines)
             taken = self._taken
             found = [taken(line, text, read) for line, text in zip(lines, texts)]
+            if keep is not None:
+                keep(found)
         except BaseException:
             self._leave()
             raise

@@ -8,7 +8,7 @@ from pathlib import Path
 from typing import TYPE_CHECKING, Any, Dict, List, NamedTuple, Optional, Sequence, Tuple
 
 from .directory import Directory, Replacement, State, checked_name, digest_of, reason
-from .errors import NotSaved, Refused
+from .errors import NotLoaded, NotSaved, Refused
 from .findings import Finding
 from .loading import DOCUMENTS, Loaded, Loader, first_number, parsed
 from .proxies import Judge, proxies_of
@@ -83,11 +83,13 @@ class Folder:
     def resource(self, name: str) -> Resource:
         """Makes an empty resource for a new file, as `sub/town.json`. `save_all` makes the file and its folders.
 
-        Raises a ValueError if the name leads out of the folder, or has a different suffix. Refused (RESOURCE_EXISTS) if there
-        is a resource of its URI.
+        Raises a ValueError if the name leads out of the folder, or has a different suffix, and a NotLoaded if it is the name of
+        a file that could not be loaded. Refused (RESOURCE_EXISTS) if there is a resource of its URI.
         """
         if not self._loader.is_document(checked_name(name)):
             raise ValueError(f'{name!r} has to end with one of {", ".join(DOCUMENTS + self._suffixes)}')
+        if name in self._loader.unread:
+            raise NotLoaded([it for it in self._loader.findings if it.file == name], name)
         made = self._repo.resource(uri_of(self.base, name))
         self._take(Kept(name, made, True))
         return made

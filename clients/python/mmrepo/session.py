@@ -45,11 +45,11 @@ class Session(Exchange):
         """The first lines of the answers to several lines, which are sent at once. The views are notified when all are answered."""
         return self._asked_all(lines, lambda line, answer: answer)
 
-    def outcomes(self, lines: Sequence[str]) -> List[Any]:
+    def outcomes(self, lines: Sequence[str], keep: Callable[[List[Any]], None]) -> List[Any]:
         """The results of several commands, which are sent at once: None for `ok`, a truth value, how many objects were deleted,
-        the object that was made, or the Refused of a refused command.
+        the object that was made, or the Refused of a refused command. `keep` is called with them before the views are notified.
         """
-        return self._asked_all(lines, self._outcome)
+        return self._asked_all(lines, self._outcome, keep)
 
     def raw(self, line: str) -> List[str]:
         """The lines that a line prints. No view is notified of them."""
@@ -62,7 +62,7 @@ class Session(Exchange):
         try:
             found = [text.split('\n')[:-1] for text in self.engine.exchange_all(lines)]
             for line, answer in zip(lines, found):
-                self._count(line, answer[0] if answer else '')
+                self._record(line, answer[0] if answer else '')
         except BaseException:
             self._leave()
             raise
@@ -114,8 +114,7 @@ class Session(Exchange):
     def explained(self, line: str) -> List[str]:
         """What has to be fixed in the last line."""
         words = line.split(' ', 2)
-        resource = self._resources.get(words[1]) if words[0] == 'load' and len(words) > 1 else None
-        return self.engine.explained(line, None if resource is None else resource.uri)
+        return self.engine.explained(line, self.uri_of(words[1]) if words[0] == 'load' and len(words) > 1 else None)
 
     # Answers of a kind
 
@@ -202,6 +201,11 @@ class Session(Exchange):
         """The resources that were made, in order."""
         return list(self._resources.values())
 
+    def uri_of(self, word: str) -> Optional[str]:
+        """The URI of a resource; None if the word names no resource."""
+        found = self._resources.get(word)
+        return None if found is None else found.uri
+
     def resource(self, line: str, uri: str) -> Resource:
         """The resource that a command makes."""
         return self.ask(line, lambda answer: self._read_resource(answer, uri))
@@ -263,10 +267,12 @@ class Session(Exchange):
         found = zip(range(self._next), self.answers(lines))
         return [self.named(f'#{number}', classes[answer]) for number, answer in found if answer in classes]
 
-    def _count(self, line: str, answer: str) -> None:
-        """Counts the objects that a line has made."""
+    def _record(self, line: str, answer: str) -> None:
+        """Counts the objects that a line has made, and records the resource that it has made."""
         if answer[:1] == '#' and line.lstrip(' ').startswith('new '):
             self._next = max(self._next, int(answer[1:]) + 1)
+        elif answer[:1] == 'r' and is_number(answer[1:]) and line.lstrip(' ').startswith('resource '):
+            self._read_resource(answer, value_of(line.strip(' ')[len('resource'):].lstrip(' '), self.named))
         elif answer.startswith('loaded '):
             self._next += int(answer[len('loaded '):])
 

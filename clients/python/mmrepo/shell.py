@@ -9,7 +9,7 @@ from contextlib import suppress
 from typing import Callable, Dict, Iterable, Iterator, List, Optional, Sequence
 
 from .completion import Completion
-from .drawing import LINES, Drawing, text_of
+from .drawing import LINES, Drawing
 from .errors import MmrepoError, NotSaved, NotStarted
 from .folders import Folder
 from .loading import XMI_FILES
@@ -38,7 +38,6 @@ class Shell:
         self._is_warned = False
         self.is_over = False
         self.drawing = Drawing(self._session, repo.metamodel)
-        self.drawing.uris.update((it._word, it.uri) for it in repo.resources)
         self.own: Dict[str, Callable[[Sequence[str]], None]] = {
             'tree': self._tree, 'show': self._show, 'changed': self._changed, 'saveall': self._save_all, 'help': self._help,
             'quit': self._quit, 'exit': self._quit,
@@ -47,8 +46,11 @@ class Shell:
     def answer(self, line: str) -> None:
         """Answers a line for a reader: the names of the objects follow below the answer."""
         words = line.split()
-        if words and words[0] in self.own:
-            self.own[words[0]](words[1:])
+        own = self.own.get(words[0]) if words else None
+        if own != self._quit:
+            self._is_warned = False
+        if own is not None:
+            own(words[1:])
             return
         for answer in self.scripted(line):
             self._out(answer)
@@ -65,9 +67,6 @@ class Shell:
         if answers and answers[0].startswith(('refused ', 'bad line')):
             for said in self._session.explained(line):
                 self._says(_numbered(number, said))
-        words = line.split(None, 1)
-        if len(words) == 2 and words[0] == 'resource' and answers[0].startswith('r') and not answers[0].startswith('refused'):
-            self.drawing.uris[answers[0]] = text_of(words[1].strip())
         return answers
 
     def _tree(self, words: Sequence[str]) -> None:
@@ -76,7 +75,7 @@ class Shell:
             self._says('tree is written as: tree [NODE [LINES]]')
             return
         most = max(1, int(words[1])) if len(words) == 2 else LINES
-        for node in words[:1] or list(self.drawing.uris):
+        for node in words[:1] or [it._word for it in self._repo.resources]:
             for line in self.drawing.tree(node, most):
                 self._out(line)
 
@@ -112,7 +111,7 @@ class Shell:
         self._out(HELP)
 
     def _quit(self, _: Sequence[str]) -> None:
-        """Ends the shell; if files have changed, only at the second time."""
+        """Ends the shell; if files have changed, only at the second of two `quit` in a row."""
         unsaved = self._unsaved()
         self.is_over = self._is_warned or not unsaved
         if not self.is_over:

@@ -8,7 +8,7 @@ from pathlib import Path
 from typing import Any, Dict, List, NamedTuple, Optional, Sequence, Tuple
 
 from ..directory import Directory
-from ..errors import MmrepoError, NotSaved, Refused
+from ..errors import MmrepoError, NotLoaded, NotSaved, Refused
 from ..folders import Folder
 from ..loading import DOCUMENTS
 from ..repository import Repository
@@ -76,7 +76,7 @@ class Files:
             if self.folders[folder].directory.has(name):
                 raise NotDone('FILE', f'FILE: there is a file {name} already')
             return self.folders[folder].resource(name)
-        except (ValueError, OSError) as error:
+        except (ValueError, OSError, NotLoaded) as error:
             raise NotDone('FILE', f'FILE: {error}') from None
         except Refused as refused:
             raise NotDone(refused.name, f'{refused.name}: there is a resource of this name already') from None

@@ -106,12 +106,23 @@ export class ListField {
   makeInput() {
     const { row } = this;
     const literals = row.model.metamodel.enums.get(row.feature.type) ?? (row.feature.type === 'EBoolean' ? ['false', 'true'] : null);
-    const key = (/** @type {KeyboardEvent} */ event) => event.key === 'Enter' && (event.preventDefault(), this.send());
+    const key = (/** @type {KeyboardEvent} */ event) => this.key(event);
     this.input = literals
       ? element('select', { id: row.name }, ...literals.map((it) => option(it, it)))
       : element('input', { id: row.name, type: 'text', placeholder: `a new value of ${row.feature.name}`, spellcheck: 'false', onkeydown: key });
     const add = element('button', { type: 'button', class: 'small', onclick: () => this.send() }, icon('add'), 'Add');
     return element('div', { class: 'adding' }, this.input, add);
+  }
+
+  /** @param {KeyboardEvent} event */
+  key(event) {
+    if (event.key === 'Enter') {
+      event.preventDefault();
+      this.send();
+    } else if (event.key === 'Escape') {
+      this.input.value = '';
+      this.row.refuse('');
+    }
   }
 
   /** Sends the typed text. If it is refused, the field gets the text back, unless something was typed in the meantime. */
