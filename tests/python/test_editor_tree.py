@@ -24,6 +24,7 @@ class Tree(TownTest):
         keys = 'ARROW_DOWN ARROW_UP END HOME ARROW_DOWN ARROW_DOWN ARROW_DOWN ARROW_LEFT ARROW_LEFT ARROW_RIGHT ARROW_RIGHT ARROW_RIGHT'
         for key in keys.split():
             self.browser.keys(f'Keys.{key}')
+            self.settle()  # a row that is opened may have to be read first
             visited.append(self.js('return mmrepo.tree.selected;'))
         self.assertEqual(visited, [PERSUASION, EMMA, CID, 'r0', DORA, 'r1', TOWN_LIBRARY, TOWN_LIBRARY, 'r1', TOWN_LIBRARY, TOWN_LIBRARY, EMMA])
         self.browser.keys('b')
