@@ -32,6 +32,23 @@ class Batches(LibraryTest):
         self.assertIs(self.repo._session.named(first._word), first)
         self.assertEqual(batch.send(), [])
 
+    def test_collected_while_sent(self):
+        """Commands that a callable collects while the batch is sent are sent by the next `send`, or at the end of the `with`."""
+        book, = self.made('Book')
+        batch = self.repo.batch()
+
+        def again(notice):
+            if book.pages < 9:
+                batch.set(book, 'pages', book.pages + 1)
+
+        self.repo.attach(again, book)
+        batch.set(book, 'pages', 7)
+        self.assertEqual((batch.send(), book.pages), ([None], 7))
+        self.assertEqual((batch.send(), book.pages), ([None], 8))
+        with batch:
+            pass
+        self.assertEqual((batch.send(), book.pages), ([], 9))
+
     def test_with(self):
         """A `with` block sends its batch at its end, and sends nothing if it raises an error."""
         with self.repo.batch() as batch:

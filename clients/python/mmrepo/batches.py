@@ -107,7 +107,8 @@ class Batch:
         ]
 
     def send(self) -> List[Any]:
-        """Sends the collected commands, and returns their results. Further commands may be collected afterwards.
+        """Sends the collected commands, and returns their results. Further commands may be collected afterwards, and also by a
+        callable that is notified while the batch is sent; they are sent by the next `send`.
 
         If objects are refused, the other objects are made, no other command is sent, and the first Refused is raised. If a
         command other than `create` is refused, all commands are sent, and the first Refused is raised when they are done.
@@ -115,21 +116,30 @@ class Batch:
         is_collecting = gc.isenabled()
         gc.disable()  # what is made here stays, and looking through it again and again takes as long as all else
         try:
-            self._session.make(self._objects)
-            outcomes = self._session.outcomes(self._lines(), self._keep)
+            lines, calls = self._take()
+            outcomes = self._session.outcomes(lines, lambda found: self._keep(calls, found))
         finally:
             if is_collecting:
                 gc.enable()
-            self._objects, self._calls = [], []
-            self._verbs, self._nodes, self._tails = [], [], []
         for outcome in outcomes:
             if isinstance(outcome, MmrepoError):
                 raise outcome
         return self.answers
 
-    def _keep(self, outcomes: List[Any]) -> None:
+    def _take(self) -> Tuple[List[str], List[Union[EObject, int]]]:
+        """Makes the objects, and takes the lines of the edits and the calls out of the batch. So a callable that is notified of the
+        edits can collect further commands.
+        """
+        try:
+            self._session.make(self._objects)
+            return self._lines(), self._calls
+        finally:
+            self._objects, self._calls = [], []
+            self._verbs, self._nodes, self._tails = [], [], []
+
+    def _keep(self, calls: List[Union[EObject, int]], outcomes: List[Any]) -> None:
         """Sets the answers to the calls, by the results of the edits."""
-        self.answers = [outcomes[it] if isinstance(it, int) else it for it in self._calls]
+        self.answers = [outcomes[it] if isinstance(it, int) else it for it in calls]
 
     def __enter__(self) -> Batch:
         return self
@@ -137,6 +147,8 @@ class Batch:
     def __exit__(
         self, kind: Optional[Type[BaseException]], error: Optional[BaseException], trace: Optional[TracebackType]
     ) -> None:
-        """Sends the collected commands. After an error it sends nothing."""
+        """Sends the collected commands, and then those that callables collect meanwhile. After an error it sends nothing."""
         if kind is None:
             self.send()
+            while self._calls:
+                self.send()
