@@ -82,6 +82,11 @@ FAULTS = {
         r'line 4, column 1: from here on the bytes are no JSON: "(.*?)\\n.*"',
         lambda text, match: replaced(text, f'{match[1]}\n', ''),
     ),
+    'last_bracket': (
+        (']}\n]}\n', ']}\n]]\n'),
+        r'line \d+, column 0: just before this place the bytes are no JSON',
+        lambda text, match: replaced(text, ']]\n', ']}\n'),
+    ),
     'key': (('"Customer", "supers"', '"Customer", "super"'), r'classes\[4\] \(class Customer\): unknown key "(.+)"; is "(.+)" meant\?', quoted(r'"\1"', r'"\2"')),
     'ecore_key': (
         ('"Order", "upper": -1', '"Order", "upperBound": -1'), PLACE + 'unknown key "(.+)"; a feature has "(.+)"', quoted(r'"\3"', r'"\4"')),

@@ -1,9 +1,9 @@
 -- The view of the list of attached adapters after one write.
-use Rattle.std.proofs.Common.{◌≡◌, ℕ, ◌+◌, ◌-◌, ◌≤◌, ◌<◌, Bool, cond, Some, List, [], ◌∷◌, ◌++◌, map, length, get_or, set, take, drop, remove, position, count_by, slice_get, option_map, zero, suc, subst, refl, sym, ap, ◌∙◌, arith, slice_index, All, ◌^◌}
-use Rattle.std.specs.List.{AllByRecursion, prefix_len, fold}
+use Rattle.std.proofs.Common.{◌≡◌, ℕ, ◌+◌, ◌-◌, ◌≤◌, ◌<◌, Bool, cond, Some, List, [], ◌∷◌, ◌++◌, map, length, get_or, set, position, slice_get, option_map, zero, suc, subst, refl, sym, ap, ◌∙◌, arith, slice_index, All, ◌^◌}
+use Rattle.std.specs.List.{AllByRecursion, prefix_len}
 use Rattle.std.proofs.lemmas.Option.{slice_get-map, slice_get_read}
-use Rattle.std.proofs.lemmas.List.{take-map, drop-map, map-append, length-map}
-use Rattle.std.proofs.lemmas.List.Elements.{All-append, All-drop, All-get_or, All-map, All-push, All-rest, All-set, All-take, All-weaker, recursion_from_All}
+use Rattle.std.proofs.lemmas.List.{length-map}
+use Rattle.std.proofs.lemmas.List.Elements.{All-get_or, All-map, All-push, All-rest, All-set, All-weaker, recursion_from_All}
 use Rattle.notice_chain.specs.View.{View}
 use Rattle.notice_chain.specs.Listed.{Listed, adapter_after_notices}
 use Rattle.notice_chain.specs.declared.notice.Notice.{Notice}
@@ -38,16 +38,6 @@ module _ {X Y : Type 0} (f : X → Y) where
   pub position-map : (p : Y → Bool) (xs : List X) → position p (map f xs) ≡ position (λ x. p (f x)) xs
   position-map p xs = rw (prefix_len-map, length-map)
 
-  pub fold-map : {B : Type 0} (g : B → Y → B) (a : B) (xs : List X) → fold g a (map f xs) ≡ fold (λ b x. g b (f x)) a xs
-  fold-map g a [] = refl
-  fold-map g a (x ∷ xs) = fold-map g (g a (f x)) xs
-
-  pub count_by-map : (p : Y → Bool) (xs : List X) → count_by p (map f xs) ≡ count_by (λ x. p (f x)) xs
-  count_by-map p xs = fold-map (λ a y. a + cond (p y) 1 0) 0 xs
-
-  pub remove-map : (xs : List X) (i : ℕ) → remove (map f xs) i ≡ map f (remove xs i)
-  remove-map xs i = rw (take-map f i xs, drop-map f (suc i) xs, map-append f (take i xs) (drop (suc i) xs))
-
 module _ {A : Type 0} where
   pub places_of-grow : (places : A → ℕ) (xs : List (Attached A)) (i : ℕ) (x y : Attached A) → x ≡ get_or xs i x → places x.adapter ≤ places y.adapter → (k : ℕ) → slice_index (places_of places xs) k ≤ slice_index (places_of places (set xs i y)) k
   places_of-grow places [] i x y e l k = omega arith
@@ -70,11 +60,6 @@ module _ {A : Type 0} where
   listed_adapters-set_same heard [] i x y e p = refl
   listed_adapters-set_same heard (z ∷ zs) zero x y e p = ap (λ r. r ∷ listed_adapters heard zs) (p ∙ ap (listed_one heard) e)
   listed_adapters-set_same heard (z ∷ zs) (suc i) x y e p = ap (λ rs. listed_one heard z ∷ rs) (listed_adapters-set_same heard zs i x y e p)
-
-  pub read_once : (xs : List (Attached A)) (i : ℕ) (x y : Attached A) → i < length xs → x ≡ get_or xs i x → y ≡ get_or xs i y → x ≡ y
-  read_once [] i x y h e k = absurd (omega arith)
-  read_once (z ∷ zs) zero x y h e k = e ∙ sym k
-  read_once (z ∷ zs) (suc i) x y h e k = read_once zs i x y (omega arith) e k
 
   pub numbers_of-set : (xs : List (Attached A)) (i : ℕ) (x y : Attached A) → x ≡ get_or xs i x → y.no ≡ x.no → numbers_of (set xs i y) ≡ numbers_of xs
   numbers_of-set [] i x y e p = refl
@@ -103,9 +88,6 @@ module _ {A : Type 0} (heard : A → View) (places : A → ℕ) where
 
   pub AreReady-push : (xs : List (Attached A)) (x : Attached A) → AreReady heard places xs → IsReady (heard x.adapter) (length x.targets.items) (places x.adapter) → AreReady heard places (xs ++ x ∷ [])
   AreReady-push xs x h k = All-push ready xs x h k
-
-  pub AreReady-remove : (xs : List (Attached A)) (i : ℕ) → AreReady heard places xs → AreReady heard places (remove xs i)
-  AreReady-remove xs i h = All-append ready (take i xs) (drop (suc i) xs) (All-take ready i xs h) (All-drop ready (suc i) xs h)
 
   pub AreReady-rest : (x : Attached A) (xs ys : List (Attached A)) → ys ≡ x ∷ xs → AreReady heard places ys → AreReady heard places xs
   AreReady-rest x xs ys e h = All-rest ready x xs ys e h

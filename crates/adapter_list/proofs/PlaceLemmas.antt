@@ -87,13 +87,6 @@ module _ {X : Type 0} (f : X → AdapterNo) where
       absurd (false≢true (sym (flipped (f x) (f q) apart) ∙ ap (λ (y : X). same_no (f q) (f y)) first ∙ same))
   one-ordinal (x ∷ xs) (suc i) (suc k) q r distinct at there same = ap suc (one-ordinal xs i k q r (IsDistinct-tail same_no (f x) (map f xs) distinct) at there same)
 
-  pub places-apart : (xs : List X) (i k : ℕ) (q r : X) → IsDistinct same_no (map f xs) → slice_get xs i ≡ Some q → slice_get xs k ≡ Some r → (k ≡ i → ⊥) → same_no (f q) (f r) ≡ false
-  places-apart xs i k q r distinct at there other =
-      elim (same_no (f q) (f r)) as (λ b. same_no (f q) (f r) ≡ b → b ≡ false) [
-        | true ↦ λ same. absurd (other (one-ordinal xs i k q r distinct at there same))
-        | false ↦ λ _. refl
-      ] refl
-
 -- the adapter of a number is at one index
 number-here : (rs : List Listed) (number : AdapterNo) (i : ℕ) (q : Listed) → HasDistinctNumbers rs → slice_get rs i ≡ Some q → has_no number q ≡ true → (k : ℕ) → has_number_at rs number k ≡ nat_eq k i
 number-here rs number i q distinct at has k = by (slice_get rs k) refl

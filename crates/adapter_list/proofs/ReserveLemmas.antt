@@ -32,9 +32,6 @@ module _ (cs : List (ℕ × Notice)) (i : ℕ) (x : ℕ × Notice) (low : i < le
   pub copies_len-here : (k : ℕ) → nat_eq x.0 k ≡ true → copies_len (drop i cs) k ≡ suc (copies_len (drop (i + 1) cs) k)
   copies_len-here k same = ap (λ (ds : List (ℕ × Notice)). copies_len ds k) first ∙ ap length (copies_for-here x.0 k x.1 (drop (i + 1) cs) (eqb-true x.0 k same))
 
-  pub copies_len-other : (k : ℕ) → nat_eq x.0 k ≡ false → copies_len (drop i cs) k ≡ copies_len (drop (i + 1) cs) k
-  copies_len-other k other = ap (λ (ds : List (ℕ × Notice)). copies_len ds k) first ∙ ap length (copies_for-other x.0 k x.1 (drop (i + 1) cs) (eqb-false x.0 k other))
-
 pub copies_len-le : (cs : List (ℕ × Notice)) (k : ℕ) → copies_len cs k ≤ length cs
 copies_len-le [] k = omega arith
 copies_len-le (c ∷ cs) k =
@@ -43,11 +40,6 @@ copies_len-le (c ∷ cs) k =
       | true ↦ omega (arith, fewer)
       | false ↦ omega (arith, fewer)
     ]
-
--- with the next copy the count is one more
-counted-here : (o : Option ℕ) (rest all : ℕ) → IsCounted o (suc rest) all → IsCounted (Some (unwrap_or o 0 + 1)) rest all
-counted-here None rest all h = (omega arith, omega (arith, h))
-counted-here (Some n) rest all h = (omega arith, omega (arith, h.1))
 
 counted-below : (o : Option ℕ) (rest all : ℕ) → IsCounted o (suc rest) all → unwrap_or o 0 + 1 ≤ all
 counted-below None rest all h = omega (arith, h)
@@ -59,16 +51,6 @@ module _ (cs : List (ℕ × Notice)) (i : ℕ) (x : ℕ × Notice) (low : i < le
 
   pub count-below : unwrap_or (counts x.0) 0 + 1 ≤ length cs
   count-below = omega (arith, counted-below (counts x.0) _ _ here, copies_len-le cs x.0)
-
-  pub counted-more : (k : ℕ) (new : Option ℕ) → new ≡ cond (nat_eq x.0 k) (Some (unwrap_or (counts x.0) 0 + 1)) (counts k) → IsCounted new (copies_len (drop (i + 1) cs) k) (copies_len cs k)
-  counted-more k new now =
-      elim (nat_eq x.0 k) as (λ b. nat_eq x.0 k ≡ b → new ≡ cond b (Some (unwrap_or (counts x.0) 0 + 1)) (counts k) → IsCounted new (copies_len (drop (i + 1) cs) k) (copies_len cs k)) [
-        | true ↦ λ same e. subst (λ (o : Option ℕ). IsCounted o (copies_len (drop (i + 1) cs) k) (copies_len cs k)) (sym e) (subst (λ (j : ℕ). IsCounted (Some (unwrap_or (counts x.0) 0 + 1)) (copies_len (drop (i + 1) cs) j) (copies_len cs j)) (eqb-true x.0 k same) (counted-here (counts x.0) _ _ here))
-        | false ↦ λ other e. subst (λ (o : Option ℕ). IsCounted o (copies_len (drop (i + 1) cs) k) (copies_len cs k)) (sym e) (subst (λ (rest : ℕ). IsCounted (counts k) rest (copies_len cs k)) (copies_len-other cs i x low is k other) (counted k))
-      ] refl now
-
-pub counted-all : (cs : List (ℕ × Notice)) (i k : ℕ) (o : Option ℕ) → length cs ≤ i → IsCounted o (copies_len (drop i cs) k) (copies_len cs k) → IsCounted o 0 (copies_len cs k)
-counted-all cs i k o past h = subst (λ (ds : List (ℕ × Notice)). IsCounted o (copies_len ds k) (copies_len cs k)) (drop_all i cs past) h
 
 ----------------------------------------------------------------- the indexes that get copies
 

@@ -6,7 +6,8 @@ use Rattle.notice_chain.specs.View.{View}
 use Rattle.notice_chain.specs.declared.notice.Notice.{Notice}
 use Rattle.adapter_list.specs.declared.detached.Detached.{Detached}
 
--- the last notification from a target, with the number of the adapter that gets it; empty if no target was taken away
+-- the result of `Going::let_go` as a list: the number of the adapter, with its last notification from the target that was taken away; empty
+-- if no target was taken away
 abbrev pub last_told : AdapterNo → Option (Notice × Bool) → List (AdapterNo × Notice)
 last_told number None = []
 last_told number (Some r) = (number, r.0) ∷ []

@@ -8,7 +8,7 @@ use Rattle.notice_chain.specs.declared.notice.Notice.{Notice}
 use Rattle.adapter_list.specs.Rounds.{adapters_after_copies}
 use Rattle.adapter_list.specs.declared.leaving.Leaving.{Leaving}
 
--- the targets that a `Leaving` says are taken away; no targets if there is no `Leaving`
+-- the targets of a `Leaving`; no targets if there is no `Leaving`
 abbrev pub spots_in : {A B : Type 0} → Option (Box (Leaving A) B) → List Spot
 spots_in q = option_map_or (λ x. x.value.release) q []
 

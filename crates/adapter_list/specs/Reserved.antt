@@ -11,8 +11,9 @@ use Rattle.adapter_list.specs.Rounds.{RoundFits, RoundView, round_copies, round_
 
 -- what reserving a chain does to the adapters and their capacities (`old` before, `new` after), and what it returns. The targets and the
 -- views of the adapters stay the same, and no adapter loses capacity. So a round that fitted the adapters still fits them. The result is
--- the round of the chain, which fits the adapters, or the refusal. If the refusal is `AdapterFull`, each adapter before the first full one
--- has the capacity that it needs.
+-- the round of the chain, which fits the adapters, or the refusal. There is a round only if each adapter can count its notifications of the
+-- chain and a last notification from each of its targets. If the refusal is `AdapterFull`, each adapter that comes before the first full
+-- adapter in attach order has the capacity that it needs.
 pub record IsReserved (up : Above) (chain : List Notice) (old new : List Listed × List ℕ) (result : Result RoundView Refused) : Type 0 where
   pub kept : new.0 ≡ old.0
   pub round : IfOk result (λ r. r ≡ round_of up chain old.0)

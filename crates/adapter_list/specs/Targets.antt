@@ -1,5 +1,5 @@
--- For each node, the adapters that have the node as a target: the entries that the table has, and the entries that the table must have
--- according to the list of adapters.
+-- For each node, the adapters that have the node as a target. A table (`TargetLists`) has an entry for each of these adapters. This file
+-- says which entries a table has for a node, and which entries it must have according to the list of adapters.
 use Rattle.std.specs.Prelude.{◌≡◌, ℕ, ◌<◌, ◌&&◌, ◌||◌, not, Bool, true, false, List, [], ◌∷◌, get_or, slice_get, length, map, nat_eq, slice_index, Option, option_map, IfSome, ⊤, if◌then◌else◌}
 use Rattle.std.specs.List.{IsDistinct, filter_map, find}
 use Rattle.std.specs.Option.{option_map_or}
@@ -57,7 +57,7 @@ is_any (e ∷ es) = true
 abbrev pub AreMarked : List Bool → TargetLists → Type 0
 AreMarked bs t = (o : ObjectNo) → get_or bs o.0 false ≡ is_any (entries_in t (node.Object o))
 
--- whether a node is marked; a resource always is
+-- whether a node is marked; a resource always counts as marked
 abbrev pub is_marked : List Bool → Node → Bool
 is_marked bs (node.Object o) = get_or bs o.0 false
 is_marked bs (node.Resource k) = true
@@ -80,19 +80,19 @@ HasMarkRoom bs (node.Resource k) = ⊤
 abbrev pub has_number_at : List Listed → AdapterNo → ℕ → Bool
 has_number_at rs number k = option_map_or (has_no number) (slice_get rs k) false
 
--- whether an adapter has the node as a target; if `only_deep`, as a deep target
+-- whether an adapter has the node x as a target; if `only_deep` is true, only deep targets count
 abbrev pub is_attached : Node → Bool → Listed → Bool
 is_attached x only_deep r = option_map_or (λ t. not only_deep || t.deep) (find (is_at x) r.targets) false
 
--- whether the adapter at index k has the node as a target; if `only_deep`, as a deep target
+-- whether the adapter at index k has the node x as a target; if `only_deep` is true, only deep targets count
 abbrev pub is_attached_at : List Listed → Node → Bool → ℕ → Bool
 is_attached_at rs x only_deep k = option_map_or (is_attached x only_deep) (slice_get rs k) false
 
--- how many targets the adapter at index k has
+-- how many targets the adapter at index k has; 0 if no adapter is at k
 abbrev pub targets_at : List Listed → ℕ → ℕ
 targets_at rs k = slice_index (map (λ r. length r.targets) rs) k
 
--- whether an entry is of the adapter at index k; if `only_deep`, the entry must also be deep
+-- whether an entry is of the adapter at index k; if `only_deep` is true, only entries of deep targets count
 abbrev pub finds : List Listed → Bool → ℕ → Entry → Bool
 finds rs only_deep k e = (not only_deep || e.deep) && has_number_at rs e.no k
 

@@ -9,9 +9,9 @@ use std::collections::VecDeque;
 pub struct Attached<A = Box<dyn Adapter>> {
     /// The number under which the adapter is attached.
     pub no: AdapterNo,
-    /// The targets of the adapter: the nodes to which it is attached. Each target comes once, in the order in which the adapter got its
-    /// targets. A deletion may take many targets out, in that order: each at the front, or just after targets that stay. That is why they
-    /// are in a ring buffer.
+    /// The targets of the adapter: the nodes to which it is attached. No target comes twice, and the targets have the order in which the
+    /// adapter got them. They are in a ring buffer, since a deletion may take many targets out, one after another in this order: the target
+    /// to take out is then the first in the buffer, or comes just after targets that stay.
     pub targets: VecDeque<Target>,
     /// The adapter itself.
     pub adapter: A,

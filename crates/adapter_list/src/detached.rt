@@ -2,11 +2,11 @@
 
 use notice_chain::Notice;
 
-/// A target that was taken from an adapter (EMF: `eAdapters().remove`).
+/// The result of taking one target from an adapter (EMF: `eAdapters().remove`).
 #[derive(Drop)]
 pub struct Detached<A> {
     /// The last notification that the adapter got from the target: REMOVING_ADAPTER.
     pub notice: Notice,
-    /// The adapter, if it has no target left.
+    /// The adapter, which is given back if it has no target left; `None` if it has other targets.
     pub adapter: Option<A>,
 }

@@ -23,8 +23,8 @@ use std::collections::VecDeque;
 use std::marker::Model;
 use std::mem;
 
-/// The parts of a list while targets are taken away. Meanwhile some adapters may have no target left. These adapters are given back before
-/// the parts become a list again.
+/// The parts of an `AdapterList` while targets are taken away from its adapters. Meanwhile an adapter may have no target left. All adapters
+/// that have no target are given back before the parts become an `AdapterList` again.
 #[derive(Drop)]
 pub(crate) struct Going<A: Adapter> {
     alloc: Global,
@@ -48,7 +48,7 @@ impl<A: Adapter> Model for Going<A> {
 }
 
 impl<A: Adapter> Going<A> {
-    /// The parts of a list, and an empty `Vec` with capacity for giving back all of its adapters.
+    /// The parts of `list`, and an empty `Vec` through which adapters are given back. The `Vec` has capacity for all adapters of the list.
     pub(crate) fn of(list: AdapterList<A>) -> (Self, Vec<(AdapterNo, A)>)
         ensures now { result.0 ≡ list.0 }
         ensures some { HaveTargets list.0 }
@@ -65,7 +65,7 @@ impl<A: Adapter> Going<A> {
         (going, list.released)
     }
 
-    /// Makes a list of the parts again. By then each adapter must have a target.
+    /// Makes a list of the parts again. Each adapter must have a target, and `released` must be empty and have capacity for all adapters.
     pub(crate) fn into_list(self, released: Vec<(AdapterNo, A)>) -> AdapterList<A>
         requires some { HaveTargets self }
         requires room { IsRoomFor (length self) (vec_len released) (vec_capacity released) }
@@ -82,8 +82,9 @@ impl<A: Adapter> Going<A> {
         }
     }
 
-    /// Takes one target from an adapter, and notifies the adapter of this. Returns the notification, and whether the adapter has no target
-    /// left. If the adapter is not attached, or the node is no target of the adapter, the result is `None`, and nothing changes.
+    /// Takes the target at `node` from the adapter with the number `no`, and gives the adapter its last notification from that target.
+    /// Returns this notification, and whether the adapter has no target left. If no adapter has this number, or `node` is no target of the
+    /// adapter, the result is `None`, and nothing changes.
     fn let_go(&mut self, no: AdapterNo, node: Node) -> Option<(Notice, bool)>
         ensures others { self.new ≡ adapters_without_target (no, node) self.old }
         ensures told { last_told no result ≡ told_of_leaving (no, node) self.old }
@@ -110,7 +111,7 @@ impl<A: Adapter> Going<A> {
         self.numbers.get_index_of(&no)
     }
 
-    /// Moves the adapters that have no targets to the end of `released`, in attach order.
+    /// Moves the adapters that have no targets to the end of `released`, in attach order. The other adapters stay.
     fn hand_out(&mut self, released: &mut Vec<(AdapterNo, A)>)
         requires released_room { vec_len released.old + length (leaving_adapters self.old) ≤ vec_capacity released.old }
         ensures others { self.new ≡ staying_adapters self.old }
@@ -122,8 +123,8 @@ impl<A: Adapter> Going<A> {
         renumber(&mut self.numbers, &self.attached);
     }
 
-    /// Gives back the adapter that has no target, if there is one. The adapter goes through `room`, an empty list that has capacity for it,
-    /// so this takes no memory.
+    /// Gives back the adapter that has no target; `None` if each adapter has a target. The list must not have two adapters without a
+    /// target. Takes no memory: the adapter is given back through `room`, an empty list that has capacity for one adapter.
     fn hand_out_one(&mut self, room: &mut Vec<(AdapterNo, A)>) -> Option<A>
         requires one { length (leaving_adapters self.old) ≤ 1 }
         requires room { IsRoomFor 1 (vec_len room.old) (vec_capacity room.old) }
@@ -135,9 +136,9 @@ impl<A: Adapter> Going<A> {
         room.pop().map(|one| one.1)
     }
 
-    /// Takes one target from an adapter, and gives the adapter back if that was its last target. If the node is no target of the adapter,
-    /// the result is `None`, and nothing changes. Takes no memory: the adapter is given back through `room`, an empty list that has
-    /// capacity for all adapters.
+    /// Takes one target from an adapter, and gives the adapter back if that was its last target. If no adapter has the number `no`, or
+    /// `node` is no target of the adapter, the result is `None`, and nothing changes. Takes no memory: the adapter is given back through
+    /// `room`, an empty list that has capacity for all adapters.
     pub(crate) fn detach(
         &mut self,
         no: AdapterNo,
@@ -162,8 +163,10 @@ impl<A: Adapter> Going<A> {
         Some(Detached { notice, adapter })
     }
 
-    /// Takes targets from adapters, one after another, and then gives back the adapters that have no target left. Adds to `told` which
-    /// adapter was notified of what, and adds the adapters that are given back to `released`.
+    /// Takes targets from adapters, one after another, and then gives back the adapters that have no target left, in attach order. Each
+    /// element of `spots` names an adapter and a node, and is skipped if the node is no target of the adapter. Adds to `told` which adapter
+    /// was notified of what, and adds to `released` the adapters that are given back. Both lists must have capacity for one more element
+    /// for each element of `spots`.
     pub(crate) fn release(
         &mut self,
         spots: &[(AdapterNo, Node)],
@@ -194,7 +197,7 @@ impl<A: Adapter> Going<A> {
     }
 }
 
-/// Takes a node out of a list of targets, in which no target comes twice.
+/// Takes the target at `node` out of a list of targets, if there is one. No two targets of the list may be at the same node.
 fn drop_target(targets: &mut VecDeque<Target>, node: Node)
     requires { IsDistinct same_node (map (λ t. t.node) targets.old.items) }
     ensures { targets.new.items ≡ filter (λ t. not (is_at node t)) targets.old.items }
@@ -212,7 +215,8 @@ fn index_among(targets: &VecDeque<Target>, node: Node) -> Option<usize>
 }
 
 /// Moves the adapters that have no targets out of `attached` and to the end of `released`, in attach order. Returns the list of the other
-/// adapters. `attached` is rotated once in its own memory.
+/// adapters, in attach order. That list is made in the memory of `attached`: each adapter is taken from the front, and put back at the end
+/// if it has targets.
 fn split<A: Adapter>(
     attached: Vec<Attached<A>>,
     released: &mut Vec<(AdapterNo, A)>,
@@ -252,8 +256,8 @@ pub(crate) fn last_notice(no: AdapterNo, target: Node, index: usize) -> Notice
     }
 }
 
-/// Replaces `numbers` by the numbers of the adapters, in the order of the adapters. Takes no memory, since `numbers` had at least as many
-/// numbers before.
+/// Replaces `numbers` by the numbers of the adapters, in the order of the adapters. Before the call `numbers` must have at least as many
+/// numbers as there are adapters, so the call takes no memory.
 fn renumber<A>(numbers: &mut IndexSet<AdapterNo>, attached: &[Attached<A>])
     requires room { length attached.now ≤ index_set_len numbers.old }
     requires distinct { IsDistinct same_no (numbers_of attached.now) }

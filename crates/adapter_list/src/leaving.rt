@@ -11,11 +11,12 @@ use mm_types::{AdapterNo, Node};
 use notice_chain::Notice;
 use std::alloc::{AllocError, Global};
 
-/// The targets that are taken away, and the capacity for all notifications. The memory for both is reserved before anything changes.
+/// The targets that are taken away, and a list with capacity for all notifications: those of the chain, and the last notifications from
+/// these targets. A `Leaving` is made before anything changes, so that taking the targets away takes no memory.
 #[derive(Drop)]
 pub struct Leaving<A> {
-    /// The targets that are taken away, adapter by adapter in attach order. The targets of one adapter have the order in which the adapter
-    /// got them.
+    /// The targets that are taken away, in the order of the `spots` of `with_room`. The crate `repository` passes them adapter by adapter
+    /// in attach order, and the targets of one adapter in the order in which the adapter got them.
     release: Release<A>,
     /// An empty list. It has capacity for a copy of each notification of a chain for each adapter that gets the notification, and for the
     /// last notification from each target in `release`.
@@ -43,8 +44,9 @@ impl<A: Adapter> Leaving<A> {
         Ok(Some(Box::new(alloc, Leaving { release, told })?))
     }
 
-    /// Takes the targets from their adapters. Returns one list of notifications, and the adapters that have no target left. In the list the
-    /// notifications `chain_told` of a chain come first, and the last notifications from these targets come after them. Takes no memory.
+    /// Takes the targets from their adapters. Returns which adapter was notified of what, and the adapters that have no target left. In the
+    /// first of these lists the notifications `chain_told` of the chain come first, and the last notifications from the targets come after
+    /// them. Takes no memory.
     pub(crate) fn let_go(
         self,
         adapters: &mut AdapterList<A>,

@@ -1,8 +1,8 @@
 //! The list of attached adapters: which adapters get a notification, what is reserved for a chain of notifications, and how the chain is
 //! delivered. For deep targets, a store of links says which nodes are above a node.
 //!
-//! A list owns its adapters, in attach order, with their targets. Contracts see, for each adapter, its number and its targets, what it was
-//! notified of, and the capacity that it has reserved. An adapter always has capacity for a last notification from each of its targets.
+//! A list owns its adapters, in attach order, with their targets. Contracts see the number, the targets, the view and the capacity of each
+//! adapter. An adapter always has capacity for a last notification from each of its targets.
 #![tactic(auto)]
 
 mod attach_refused;

@@ -24,8 +24,8 @@ use std::alloc::Global;
 use std::collections::VecDeque;
 use std::marker::Model;
 
-/// The attached adapters, in attach order (EMF: the adapters of all notifiers). Contracts see two lists: the adapters with their targets
-/// and with what each was notified of; and the capacity of each adapter.
+/// The attached adapters, in attach order (EMF: the adapters of all notifiers). Contracts see two lists. The first has the number, the
+/// targets and the view of each adapter; the second has the capacity of each adapter.
 ///
 /// The numbers of the adapters are distinct. All adapters together have at most 100,000 targets; each adapter has at least one target, and
 /// no target twice. Each adapter has capacity reserved for its last notification from each of its targets, and can count those
@@ -34,13 +34,14 @@ use std::marker::Model;
 pub struct AdapterList<A: Adapter> {
     pub(crate) alloc: Global,
     pub(crate) attached: Vec<Attached<A>>,
-    /// The numbers of `attached`, in the same order, to find an adapter by its number.
+    /// The numbers of the adapters in `attached`, in the same order. They serve to find an adapter by its number.
     pub(crate) numbers: IndexSet<AdapterNo>,
     /// For each node the adapters that have the node as a target, in attach order.
     pub(crate) by_target: TargetLists,
-    /// For each object, by its number, whether it is a target of any adapter. An object past the end of the list is no target.
+    /// For each object, at the index that is its number, whether the object is a target of any adapter. An object whose number is past the
+    /// end of the list is no target.
     pub(crate) marks: Vec<bool>,
-    /// How many targets there are.
+    /// How many targets all adapters have together.
     pub(crate) targets_len: usize,
     /// Empty between calls, with capacity for all adapters. So `close` and `detach`, which give adapters back through this list, take no
     /// memory.
@@ -60,7 +61,7 @@ impl<A: Adapter> Model for AdapterList<A> {
 }
 
 impl<A: Adapter> AdapterList<A> {
-    /// No adapters. Takes no memory.
+    /// A list without adapters. Takes no memory.
     pub fn new(alloc: Global) -> Self
         ensures { result ≡ ([], []) }
     {
@@ -82,7 +83,7 @@ impl<A: Adapter> AdapterList<A> {
         self.attached.len()
     }
 
-    /// The number and the targets of the adapter at `i` in attach order; None past the last. Takes no memory.
+    /// The number and the targets of the adapter at index `i` in attach order; None if `i` is past the last adapter. Takes no memory.
     pub fn at(&self, i: usize) -> Option<(AdapterNo, &VecDeque<Target>)>
         ensures { option_map {U = AdapterNo × List Target} (λ p. (p.0, p.1.now.items)) result ≡ option_map (λ r. (r.no, r.targets)) (slice_get self.now.0 i) }
     {
@@ -123,9 +124,10 @@ impl<A: Adapter> AdapterList<A> {
         }
     }
 
-    /// The facts that hold of every list, for callers whose proofs need them. There are no more targets than there may be, and the numbers
-    /// of the adapters are distinct. Each adapter has a target, and no target twice. It has capacity reserved for a last notification from
-    /// each of its targets, and can count these notifications.
+    /// The facts that hold of every list, for callers whose proofs need them. All adapters together have at most 100,000 targets. The
+    /// numbers of the adapters are distinct. Each adapter has a target, and no target twice. It has capacity reserved for a last
+    /// notification from each of its targets, and can count these notifications. The list of the capacities is as long as the list of the
+    /// adapters.
     pub fn lemma_keeps_rules(&self)
         ensures few { targets_len self.now.0 ≤ TARGETS }
         ensures distinct { HasDistinctNumbers self.now.0 }

@@ -1,4 +1,4 @@
-//! Targets that are to be taken away, with capacity for the notifications and the adapters.
+//! Targets that are to be taken away, with capacity for the last notifications from them, and for the adapters that are given back.
 ghost use Rattle.std.specs.Prelude.{◌≡◌, IfOk, length, vec_len, vec_capacity};
 ghost use Rattle.adapter_list.specs.Attached.{IsRoomFor};
 
@@ -30,7 +30,7 @@ impl<A> Model for Release<A> {
 }
 
 impl<A> Release<A> {
-    /// Reserves capacity for taking some targets away. Fails only if memory is refused.
+    /// Reserves capacity for taking the targets `spots` away, in the order of this list. Fails only if memory is refused.
     pub fn new(alloc: Global, spots: Vec<(AdapterNo, Node)>) -> Result<Self, AllocError>
         ensures { IfOk result (λ r. r ≡ spots.items) }
     {
@@ -50,8 +50,8 @@ impl<A> Release<A> {
         self.spots.len()
     }
 
-    /// The targets; an empty list with capacity for their last notifications; and an empty list with capacity for the adapters that are
-    /// given back.
+    /// The targets; an empty list with capacity for the last notification from each of them; and an empty list with capacity for the
+    /// adapters that are given back.
     pub(crate) fn into_parts(
         self,
     ) -> (

@@ -6,7 +6,7 @@ use notice_chain::Target;
 use std::alloc::{AllocError, Global};
 use std::collections::VecDeque;
 
-/// A list of one target of an adapter. Fails only if memory is refused.
+/// The list whose only element is the target at `node` of the adapter with the number `no`. Fails only if memory is refused.
 pub fn one_spot(
     alloc: Global,
     no: AdapterNo,
@@ -19,7 +19,8 @@ pub fn one_spot(
     Ok(spots)
 }
 
-/// All targets of an adapter, in the order in which the adapter got them. Fails only if memory is refused.
+/// The list of all targets of an adapter, in the order in which the adapter got them. `no` is the number of the adapter, and `targets` are
+/// its targets. Fails only if memory is refused.
 pub fn own_spots(
     alloc: Global,
     no: AdapterNo,

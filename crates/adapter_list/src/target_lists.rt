@@ -1,4 +1,4 @@
-//! For each node, the adapters that have the node as a target. So the adapters of a node are found without a look at other adapters.
+//! For each node, the adapters that have the node as a target. So the adapters of a node are found without looking at other adapters.
 ghost use Rattle.std.specs.Prelude.{◌≡◌, ◌≤◌, ◌<◌, [], length, insert, remove, position, OnOk, OnErr, if◌then◌else◌};
 ghost use Rattle.mm_types.specs.Same.{same_node};
 ghost use Rattle.mm_types.specs.declared.numbers.Node.{Node};
@@ -9,7 +9,7 @@ use indexmap::IndexMap;
 use mm_types::{AdapterNo, Node};
 use std::alloc::{AllocError, Global};
 
-/// A node, as a key.
+/// A node, as a key of a `TargetLists`.
 #[derive(Clone, Copy, Debug, PartialEq, Eq, Hash)]
 pub(crate) struct NodeKey {
     pub is_resource: bool,
@@ -25,7 +25,7 @@ pub(crate) struct Entry {
 }
 
 /// The adapters of each node that has adapters. The owner of this table keeps the entries of a node in attach order. An entry has the
-/// number of its adapter, and not the adapter's index, so the entry stays the same if a different adapter leaves.
+/// number of its adapter, and not the adapter's index, so the entry stays right if a different adapter is given back.
 #[derive(Drop)]
 pub(crate) struct TargetLists {
     alloc: Global,
@@ -49,7 +49,7 @@ fn key(node: Node) -> NodeKey
 }
 
 impl TargetLists {
-    /// No adapters. Takes no memory.
+    /// A table without adapters. Takes no memory.
     pub fn new(alloc: Global) -> Self
         ensures entries { (x : Node) → entries_in result x ≡ [] }
         ensures none_empty { HasNoEmpty result }
@@ -77,14 +77,15 @@ impl TargetLists {
         !self.at(node).is_empty()
     }
 
-    /// The index of the adapter with the number `no` among the adapters of a node; `None` if it is not among them. Takes no memory.
+    /// The index of the adapter with the number `no` among the adapters of a node; `None` if this adapter is not among them. Takes no
+    /// memory.
     pub fn index_of(&self, node: Node, no: AdapterNo) -> Option<usize>
         ensures { result ≡ position (λ e. same_no no e.no) (entries_in self.now node) }
     {
         self.at(node).iter().position(|entry| no == entry.no)
     }
 
-    /// Adds an adapter at an index among the adapters of a node. If memory is refused, nothing has changed.
+    /// Adds an adapter at an index among the adapters of a node. Fails only if memory is refused; then no entry has changed.
     pub fn insert(&mut self, node: Node, index: usize, entry: Entry) -> Result<(), AllocError>
         requires { index ≤ length (entries_in self.old node) }
         ensures ok { OnOk result ((x : Node) → entries_in self.new x ≡ (if same_node node x then insert (entries_in self.old x) index entry else entries_in self.old x)) }

@@ -18,14 +18,15 @@ impl Count {
         Count { told }
     }
 
-    /// How many notifications were counted.
+    /// The present count: `told` of `starting_at`, plus one for each call of `add`.
     pub(crate) fn told(&self) -> u64
         ensures { result ≡ self.now.told }
     {
         self.told
     }
 
-    /// Fails with Full exactly if `n` more notifications can't be counted; never fails with Memory.
+    /// Fails with Full exactly if `n` more notifications can't be counted; never fails with Memory. Nothing is reserved: counting takes no
+    /// memory.
     pub(crate) fn reserve(&self, n: u64) -> Result<(), NoRoom>
         ensures { IsCounted (λ c. c.told) n self.now self.now result }
     {

@@ -10,7 +10,7 @@ use circular_buffer::HeapCircularBuffer;
 use notice_chain::Notice;
 use std::alloc::{AllocError, Global};
 
-/// Keeps the last notifications that it gets, up to the number that `new` was given.
+/// Keeps the last `n` notifications that it got, or all of them if it got fewer. `n` is the argument of `new`.
 #[derive(Drop)]
 pub struct Window {
     latest: HeapCircularBuffer<Notice>,

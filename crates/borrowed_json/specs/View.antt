@@ -13,7 +13,7 @@ number_view (Unsigned n) = unsigned n
 number_view (Negative z) = negative z
 number_view (Float x) = float x
 
--- the members are put in one after another, so the last value of a key stays
+-- the members of an object as `serde_json` has them: the members ms are put in one after another, so of each key only the last value stays
 abbrev pub members_of : List (Bor (List ℕ) × Data) → Members
 members_of ms = fold (λ found m. put m.0.now m.1 found) no_members ms
 

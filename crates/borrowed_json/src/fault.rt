@@ -8,7 +8,7 @@ use std::alloc::{AllocError, AllocFailed};
 /// Why a text is not read as JSON.
 #[derive(Clone, Copy, Debug, Drop, PartialEq, Eq)]
 pub enum JsonFault {
-    /// The text is no JSON, nests too deep, or has a number that is too large.
+    /// The text is no JSON, has half of a surrogate pair, nests too deep, or has a number that is too large.
     Syntax,
     /// Memory was refused.
     Memory,

@@ -12,7 +12,7 @@ use std::alloc::AllocError;
 /// each key once, however often the key is written.
 const SEARCHED: usize = 256;
 
-/// The index of the last member that has a key; `None` if none of the last `SEARCHED` members has the key.
+/// The index of the last member whose key is `key`; `None` if none of the last `SEARCHED` members has this key.
 fn last_of(members: Members, key: &str) -> Option<usize>
     ensures { IfSome result (λ i. (i < length members.now) × (list_all (λ m. not (bytes_eq m.0.now key.now)) (drop (i + 1) members.now) ≡ true)) }
 {
@@ -27,9 +27,9 @@ fn last_of(members: Members, key: &str) -> Option<usize>
     None
 }
 
-/// Puts a value at a key of an object. `members` has the members of the object from the index `base` on; before that index it has members
-/// of outer objects. If the key is among the last `SEARCHED` members of the object, the new value replaces the value there; otherwise the
-/// key and the value are added as the last member.
+/// Puts a value at a key of an object. From the index `base` on, `members` has the members of the object; before that index, `members` has
+/// members of outer objects. If the key is among the last `SEARCHED` members of the object, the new value replaces the value of that
+/// member; otherwise the key and the value are added as the last member.
 #[inline(always)]
 pub(crate) fn put<'t>(
     members: &mut Vec<(&'t str, Json<'t>)>,

@@ -7,7 +7,8 @@ ghost use Rattle.borrowed_json.specs.View.{number_view};
 
 use fast_float::Numeral;
 
-/// An integer of 64 bits, or else a finite float.
+/// An integer of 64 bits, or a finite float. A number is an integer only if it is written without a fraction and without an exponent. An
+/// integer that does not fit into 64 bits is a float, and so is `-0`.
 #[derive(Clone, Copy, Drop)]
 pub enum Number {
     Unsigned(u64),
@@ -16,7 +17,7 @@ pub enum Number {
 }
 
 impl Number {
-    /// The number as an `i64`, if it is an integer that fits.
+    /// The number as an `i64`, if it is an integer that fits; `None` for every float.
     pub(crate) fn as_i64(self) -> Option<i64>
         ensures { result ≡ as_i64 (number_view self) }
     {
@@ -58,7 +59,7 @@ impl Number {
         Number::nearest(true, numeral)
     }
 
-    /// The number that a token of JSON writes; `None` if the number is too large for a finite float.
+    /// The number that the text of a JSON token denotes; `None` if the number is too large for a finite float.
     pub(crate) fn parse(text: &str) -> Option<Number>
         ensures { option_map number_view result ≡ number_of text.now }
     {
@@ -75,10 +76,10 @@ impl Number {
     }
 }
 
-/// The greatest count of digits that are read one by one: each number of so many digits fits 64 bits.
+/// The greatest length of a text whose digits `few_digits` reads one by one. A number of so many digits always fits into 64 bits.
 const FEW: usize = 18;
 
-/// The number that at most `FEW` digits write; `None` if a byte is no digit, or if there are no bytes or more than `FEW`.
+/// The number whose digits are `bytes`; `None` if a byte is no digit, or if there are no bytes or more than `FEW`.
 #[inline(always)]
 fn few_digits(bytes: &[u8]) -> Option<u64>
     ensures { IfSome result (λ n. AllDigits 10 bytes.now × (0 < length bytes.now) × (n < 2 ^ 64) × (n ≡ digits_value 10 bytes.now)) }

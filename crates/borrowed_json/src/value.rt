@@ -16,8 +16,9 @@ pub enum Json<'t> {
     Object(Members<'t>),
 }
 
-/// The members of an object, in the order in which they are written. If a key is repeated, and the earlier member with that key is among
-/// the last 256 members so far, the new value replaces the value of the earlier member. If a key still comes twice, its last value counts.
+/// The members of an object, in the order in which they are written. If a key is repeated while its earlier member is among the last 256
+/// members so far, the new value replaces the value of that member. Otherwise the object has several members with the key, and the value of
+/// the last of them counts.
 pub type Members<'t> = &'t [(&'t str, Json<'t>)];
 
 impl<'t> Json<'t> {
@@ -59,7 +60,7 @@ impl<'t> Json<'t> {
         }
     }
 
-    /// The integer as an `i64`, if the JSON value is an integer that fits. Takes no memory.
+    /// The number as an `i64`, if the JSON value is an integer that fits (`1.0` and `-0` are no integers). Takes no memory.
     pub fn as_i64(&self) -> Option<i64>
         ensures { result ≡ option_and_then as_i64 (as_number (view self.now)) }
     {

@@ -3,26 +3,26 @@ use crate::expand::push_line;
 use crate::fault::Fault;
 use std::alloc::Global;
 
-/// A case: a metamodel, a script over it, and what the two must give.
+/// A case: a metamodel, a script over it, and what the two must give. A case without a script is about the metamodel alone.
 #[derive(Drop)]
 pub struct Case<'a> {
     /// The name of the case, which says what the case shows.
     pub name: &'a str,
     /// The name of the metamodel's file, without `.json`. If there is no name, `document` is the metamodel.
     pub metamodel: Option<&'a str>,
-    /// The metamodel's text, if it is in the case.
+    /// The metamodel, if the case itself has its text; otherwise empty.
     pub document: Vec<u8>,
-    /// The script, each line with its newline.
+    /// The script, each line with its newline; empty if the case has none.
     script: Vec<u8>,
-    /// What must be printed.
+    /// What the script must print; if there is no script, what the metamodel must give.
     pub expected: Vec<u8>,
 }
 
 impl<'a> Case<'a> {
     /// Reads a case: a line with its name, and then the lines up to the first empty line, or to the end of the text.
     ///
-    /// `metamodel NAME` names the file of its metamodel, and `document TEXT` is a line of its metamodel. `> TEXT` is a line of its script,
-    /// and `>` is an empty line of the script. Any other line is a line that must be printed.
+    /// `metamodel NAME` names the file of the metamodel, and `document TEXT` is a line of the metamodel. `> TEXT` is a line of the script,
+    /// and `>` is an empty line of the script. Any other line is one that the case must give.
     pub(crate) fn parse(alloc: Global, text: &'a str) -> Result<Case<'a>, Fault> {
         let mut lines = text.lines();
         let mut case = Case {

@@ -19,7 +19,7 @@ fn push_numbered(out: &mut Vec<u8>, text: &str, number: u32) -> Result<(), Fault
     Ok(())
 }
 
-/// Adds what a mark stands for.
+/// Adds what a mark stands for. `mark` is the text between `<<` and `>>`.
 fn push_mark(out: &mut Vec<u8>, mark: &str) -> Result<(), Fault> {
     if let Some(digits) = mark.strip_prefix('x') {
         let Ok(byte) = u8::from_str_radix(digits, 16) else {
@@ -40,7 +40,8 @@ fn push_mark(out: &mut Vec<u8>, mark: &str) -> Result<(), Fault> {
     Ok(())
 }
 
-/// Adds the text after a `<<`: first the replacement of the mark, which ends with `>>`, and then the rest of the text.
+/// Adds what the text after a `<<` stands for. `text` has the mark up to its `>>`, and then the rest. The mark is replaced by what it
+/// stands for, and the rest is added as it is.
 fn push_after_mark(out: &mut Vec<u8>, text: &str) -> Result<(), Fault> {
     let Some((mark, rest)) = text.split_once(">>") else {
         return Err(Fault::Mark);

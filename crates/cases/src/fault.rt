@@ -13,7 +13,8 @@ pub enum Fault {
     /// The arguments can't be read, or nothing can be written.
     Stream,
     /// Something is refused that must be accepted: the metamodel of books, a command that prepares the list of commands, or a command on
-    /// the books of the snapshot. Then this program is wrong.
+    /// the books of the snapshot. Then this program is wrong, unless the books of the snapshot are more than the 1,000,000 objects that a
+    /// repository makes.
     Refused,
     /// Memory was refused.
     Memory,

@@ -33,7 +33,7 @@ fn do_all<L: LinkStore, A: Adapter, W: Write>(
     }
 }
 
-/// Does the list of commands, and prints their outcomes and what the repository has then.
+/// Does the list of commands, and prints the outcomes of the commands and what the repository has then.
 fn do_list<L: LinkStore, A: Adapter, W: Write>(
     alloc: Global,
     writer: &mut W,
@@ -48,7 +48,7 @@ fn do_list<L: LinkStore, A: Adapter, W: Write>(
 
 /// Makes a book, attaches the adapter `first` to the book, and takes a snapshot of the book. Replays on this snapshot a notification that
 /// says that the book gets a name; the book itself has none yet. Then does the list of commands, which names the book and attaches the
-/// adapter `second`. At the end prints the snapshot.
+/// adapter `second`. At the end prints the replayed snapshot.
 fn session<L: LinkStore, A: Adapter, W: Write>(
     alloc: Global,
     writer: &mut W,
@@ -81,7 +81,7 @@ fn run<L: LinkStore, A: Adapter, W: Write>(
 /// Does the list of commands, and prints the outcome of each command. If there is no memory for the outcomes, prints all the commands,
 /// which the repository gives back. Then prints what the repository has, and a snapshot on which a notification was replayed.
 pub(crate) fn run_list<W: Write>(alloc: Global, writer: &mut W) -> Result<(), Fault> {
-    // A recorder takes memory when it is attached.
+    // A recorder takes memory when it is attached, so the attach can be refused for memory.
     let first: Box<dyn Adapter> = Box::new(alloc, Recorder::new(alloc))?;
     let second: Box<dyn Adapter> = Box::new(alloc, Recorder::new(alloc))?;
     run::<SlotStore, _, W>(alloc, writer, first, second)

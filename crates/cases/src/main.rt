@@ -2,7 +2,8 @@
 //!
 //! `cases FILE..` reads files of cases, and the metamodels that the cases name; CONTRIBUTING.md explains how a case is written. A script is
 //! run over each store of links. If a case does not give what it expects, the program prints the name of the case, the store, what was
-//! expected and what was given; then the exit status is 1. The last line counts the cases.
+//! expected and what was given. If a case can't be run, the program prints the name of the case and the reason. The exit status is 1 if a
+//! case fails in one of these two ways, or if a file of cases can't be read. The last line counts the cases.
 //!
 //! With the word `commands`, the program does a list of commands by one call of a repository, and prints the outcome of each command. If
 //! there is no memory for the outcomes, it prints all the commands, which the repository gives back. Then it prints what the repository
@@ -88,8 +89,8 @@ fn metamodel_of(rt: &HostRuntime, case: &Case<'_>) -> Result<Vec<u8>, Fault> {
     }
 }
 
-/// Runs the script of a case over a store of links, once with the last newline of the script and once without. Returns whether the script
-/// gives both times what the case expects.
+/// Runs the script of a case over a store of links, first with the last newline of the script and then without. Returns whether the script
+/// gives both times what the case expects. If it does not the first time, there is no second run.
 fn passes_over<L: LinkStore, W: Write>(
     alloc: Global,
     writer: &mut W,
@@ -107,8 +108,8 @@ fn passes_over<L: LinkStore, W: Write>(
     Ok(true)
 }
 
-/// Runs a case, and returns whether it gives what it expects. A script runs over each store, and must give what the case expects over both.
-/// If the case has no script, the outcome of its metamodel must be what the case expects.
+/// Runs a case, and returns whether the case gives what it expects. A script runs over each store, and must give what the case expects over
+/// both. If the case has no script, the outcome of its metamodel must be what the case expects.
 fn passes<W: Write>(
     alloc: Global,
     writer: &mut W,
@@ -143,8 +144,8 @@ fn run_case<W: Write>(rt: &HostRuntime, writer: &mut W, text: &str) -> Result<bo
     }
 }
 
-/// Runs the cases of a text, and counts them in the tally. A case begins with a line `== NAME`, which is not the first line of the text.
-/// What is before the first case is skipped.
+/// Runs the cases of a text, and counts them in the tally. A case begins with a line `== NAME`. The first line of the text begins no case,
+/// whatever it is. What is before the first case is skipped.
 fn run_cases<W: Write>(
     rt: &HostRuntime,
     writer: &mut W,

@@ -11,7 +11,7 @@ use script_program::run;
 use std::alloc::{AllocError, Global};
 use std::io::Write;
 
-/// How many notifications the adapter A8 can still count, its REMOVING_ADAPTER included.
+/// How many notifications the adapter A8 can count in a script, the notification of REMOVING_ADAPTER included.
 const LEFT: u64 = 2;
 
 fn line(alloc: Global, fault: MetaFault) -> Result<Vec<u8>, AllocError> {

@@ -32,10 +32,6 @@ eq-swap m n h = grind (arith, nat_tests)
 and-from : (a b c : Bool) → a ≡ true → b ≡ true → c ≡ true → (a && (b && c)) ≡ true
 and-from a b c x y z = λ i. x i && (y i && z i)
 
--- the same position has the same key
-pub key-self : (p : ProxySite) → same_reference_key (key_of p) (key_of p) ≡ true
-key-self p = and-from _ _ _ (eq-self p.object.0) (eq-self p.feature.0) (eq-self p.index)
-
 site-is : (p q : ProxySite) → same_reference_key (key_of p) (key_of q) ≡ true → p ≡ q
 site-is p q h =
     let one = and_parts (nat_eq p.object.0 q.object.0) _ h in

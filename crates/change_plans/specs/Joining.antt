@@ -1,5 +1,5 @@
--- The proxies of a model are resolved one after another. The target of each proxy is found by tables that were made of all proxies
--- beforehand, and by sets that record what was resolved so far (`Progress`).
+-- The proxies of a model are resolved one after another. The target of each proxy is found by a table that was made of all proxies
+-- beforehand (`FirstLeads`), and by sets that record what was resolved so far (`Progress`).
 use Rattle.std.specs.Prelude.{◌≡◌, ◌&&◌, ◌||◌, Bool, false, not, List, [], ◌∷◌, ◌++◌, map, Option, Some, None, option_and_then, option_map, if◌then◌else◌}
 use Rattle.std.specs.Option.{option_map_or}
 use Rattle.mm_types.specs.Ends.{has_value}
@@ -33,8 +33,9 @@ use Rattle.proxies.specs.declared.resolved_proxy.ResolvedProxy.{ResolvedProxy}
 
 ---------------------------------------------------------------- what a proxy is resolved to
 
--- the counterpart of the proxy at p, which leads to the object o. It is the first proxy at the opposite end that leads back to the
--- referring object. None if there is no such proxy, or if the reference has no opposite
+-- the counterpart of the proxy at p; o is the object at the address of this proxy, and t is a table of all proxies. The counterpart is the
+-- first proxy at the opposite end that leads back to the referring object. None if no proxy there leads back, or if the reference has no
+-- opposite
 abbrev pub counterpart_by : Reading → FirstLeads → ProxySite → ObjectNo → Option Counterpart
 counterpart_by r t p o =
     option_and_then (λ d. option_map (λ j. record { end = d; index = j }) (index_at t (reference_key o d.feature p.object.0))) (opposite_end r (end_of p) o)
@@ -58,9 +59,8 @@ target_by r g t x = option_and_then (λ o. unless_refused r g x.site (found_by r
 abbrev pub joint : ProxySite → ResolvedProxy → Joint
 joint p x = record { site = p; target = x }
 
--- x is the target of a proxy, and c is the counterpart of the proxy. `is_far_site`: whether k is the key of the location of c.
--- `is_far_link`: p is the location of the proxy. A resolve of the proxy replaces c by the object that has the proxy. Whether k is the key
--- of the reference that has c, with the number of this object
+-- A resolve of the proxy at p, with the target x and the counterpart c, replaces c by the referring object. `is_far_site`: whether k is the
+-- key of the location of c. `is_far_link`: whether k is the key of the reference that has c, with the number of the referring object
 abbrev pub is_far_site : ResolvedProxy → Counterpart → ReferenceKey → Bool
 is_far_site x c k = same_reference_key k (reference_key x.object c.end.feature c.index)
 
@@ -89,7 +89,7 @@ pub record IsNothing (g : Progress) : Type 0 where
 abbrev pub joint_of : Resolution → Joint
 joint_of y = joint y.site y.target
 
--- the edits of a resolved proxy; and `told_by`, its feature changes
+-- the edits that resolve one proxy; and `told_by`, the feature changes of this resolve
 abbrev pub edits_by : Reading → Joint → List Edit
 edits_by r j =
     let e = end_of j.site in
@@ -98,9 +98,9 @@ edits_by r j =
 abbrev pub told_by : Joint → List FeatureChange
 told_by j = changes_of_resolve (end_of j.site) j.site.index j.target
 
--- g is what is known after the proxies `js` were resolved, and `ends` has the values of each end then. Exactly the proxies at the locations
--- in `gone` are gone. A reference has an object as a value in `ends` exactly in two cases: it had this object before the first resolve, or
--- `linked` has the key of the reference and the object
+-- g is what is known after the proxies `js` were resolved, and `ends` has the values of each end then. By then a proxy of r has been
+-- replaced exactly if its location is in `gone`. A reference has an object as a value in `ends` exactly in two cases: it had this object
+-- before the first resolve, or `linked` has the key of the reference and the object
 pub record IsKnown (r : Reading) (js : List Joint) (ends : End → List Value) (g : Progress) : Type 0 where
   pub joints : g.joints.items ≡ js
   pub gone : (p : ProxySite) → is_proxy_site (record r { values = ends }) p ≡ (is_proxy_site r p && not (has g.gone (key_of p)))

@@ -35,8 +35,8 @@ lone_add r c e (value.Object o) i =
     Some (put_at r e (position_for r e i) o)
 lone_add r c e v i = None
 
--- the new link that a set or an addition of an object puts; none if planning finds a refusal, or if the change displaces a link or makes no
--- link
+-- the new link that a set or an addition puts, if the change puts this link and edits nothing else; none if planning finds a refusal, or if
+-- the change displaces a link or makes no link
 abbrev pub lone_put : Reading → Change → Option NewLink
 lone_put r (At e (Set v)) = lone_set r (At e (Set v)) e v
 lone_put r (At e (Add v i)) = lone_add r (At e (Add v i)) e v i

@@ -23,7 +23,7 @@ use Rattle.change_plans.specs.declared.planned.Planned.{Planned}
 use Rattle.mm_types.specs.Conditions.{is_memory_refusal}
 
 -- The change c is not refused and does not resolve all proxies. x has the objects that c destroys, if there are any, and t is the target of
--- the proxy that c resolves, if there is one.
+-- the proxy that c resolves, if there is one. If c loads a document, the objects and the lists of the document are within the limits.
 pub record IsAllowed (r : Reading) (c : Change) (x : Option Removal) (t : Option ResolvedProxy) : Type 0 where
   pub asked : early_refusal r c ≡ None
   pub allowed : late_refusal r c ≡ None
@@ -32,24 +32,25 @@ pub record IsAllowed (r : Reading) (c : Change) (x : Option Removal) (t : Option
   pub fits : HasFittingDocument r.next c
   pub one : resolves_all c ≡ false
 
--- the objects that a deletion destroys, among what planning finds
+-- the objects that a deletion destroys, if planning finds them; none if planning finds something else or nothing
 abbrev pub removal_in : Finding → Option Removal
 removal_in (finding.Removal x) = Some x
 removal_in _ = None
 
--- the target of a proxy that is resolved, among what planning finds
+-- the target of a proxy that is resolved, if planning finds it; none if planning finds something else or nothing
 abbrev pub target_in : Finding → Option ResolvedProxy
 target_in (finding.Target x) = Some x
 target_in _ = None
 
--- how many proxies a resolve of all proxies resolves and how many it leaves, taken from what planning finds; none if planning finds
--- something else
+-- the two counts of a resolve of all proxies, if planning finds them: how many proxies are resolved, with two proxies of one link counted
+-- as one, and how many are left. None if planning finds something else or nothing
 abbrev pub resolved_in : Finding → Option Resolved
 resolved_in (finding.Counts n) = Some n
 resolved_in _ = None
 
--- the plan of a change that is not refused: the objects that the change destroys, the target of the proxy that it resolves, how many
--- proxies it resolves if it resolves all, the edits that make the change, and its notifications if an adapter may have to get them
+-- p is the plan of the change c, and c is not refused. p has what planning finds: the objects that c destroys, the target of the proxy that
+-- c resolves, or the two counts of a resolve of all proxies. p also has the edits that make the change. If `is_heard`, p has the
+-- notifications of c too, otherwise none
 pub record IsPlanOf (is_heard : Bool) (s : Model) (c : Change) (p : Planned) : Type 0 where
   pub allowed : late_refusal (reading s) c ≡ None
   pub removed : IsRemovalOf (reading s) c (removal_in p.finding)
@@ -69,11 +70,11 @@ of_values vs ns = record { finding = finding.Nothing; edits = []; values = vs; c
 abbrev pub of_links : List Edit → List Notice → Planned
 of_links es ns = record { finding = finding.Nothing; edits = es; values = []; chain = ns }
 
--- whether planning takes memory before it looks for refusals: it does so only to find the target of a proxy
+-- whether planning takes memory before it looks for refusals: only for a resolve of one proxy, whose target has to be found first
 abbrev pub looks_first : Change → Bool
 looks_first c = resolves_one c
 
--- the result of planning: the plan, or the refusal that applies. The result is `Memory` only if no other refusal applies, or if
+-- the result of planning: the plan, or the first refusal that applies. The result is `Memory` only if no other refusal applies, or if
 -- `looks_first` is true of the change
 abbrev pub Plans : Bool → Result Planned Refused → Model → Change → Type 0
 Plans is_heard (Ok p) s c = IsPlanOf is_heard s c p

@@ -20,7 +20,7 @@ use crate::cuts::push_cuts;
 use crate::link_planning::put_at;
 use handshake::{Act, Change, is_plain_add, is_plain_set};
 use links::{Edit, LinkStore, Plan};
-use mm_types::{End, Node, ObjectNo, Seq, Value};
+use mm_types::{End, Node, ObjectNo, Value};
 use mm_values::{NewValues, ValueEdit, ValuePlan};
 use models::ModelRef;
 use proxies::{Counterpart, ResolvedProxy};
@@ -29,8 +29,8 @@ use resource_docs::Doc;
 use std::alloc::{AllocError, Global};
 
 /// The edits of links that a change makes. `link_ends` names the links that the change cuts, and `target` is the target of the proxy that
-/// the change resolves, if it resolves one. The change must not be a resolve of all proxies: its edits are made in the module
-/// `resolving_all`.
+/// the change resolves, if it resolves one. The change must not be a resolve of all proxies: the module `resolving_all` makes the edits of
+/// that change.
 pub(crate) fn link_edits<L: LinkStore>(
     alloc: Global,
     model: &ModelRef<L>,
@@ -46,56 +46,62 @@ pub(crate) fn link_edits<L: LinkStore>(
 {
     if let Change::Load(resource, doc) = change {
         let edits = doc_loader::link_edits(alloc, model.meta(), model.next(), *resource, doc)?;
-        return Ok(Seq::from_vec(edits));
+        return Ok(Plan::from_vec(edits));
     }
-    let mut edits = Vec::new(alloc);
-    push_cuts(link_ends, &mut edits)?;
-    push_made(model, change, target, &mut edits)?;
-    Ok(Seq::from_vec(edits))
+    let mut edits = Plan::with_capacity(alloc, link_ends.len() + 1)?;
+    push_cuts(alloc, link_ends, &mut edits)?;
+    push_made(alloc, model, change, target, &mut edits)?;
+    Ok(edits)
 }
 
-/// Adds the edits after the cuts, for a change that loads nothing and doesn't resolve all proxies.
+/// Adds the edits that a change makes after its cuts. The change must load nothing, and must not resolve all proxies. `target` is the
+/// target of the proxy that the change resolves, if it resolves one.
 fn push_made<L: LinkStore>(
+    alloc: Global,
     model: &ModelRef<L>,
     change: &Change,
     target: Option<ResolvedProxy>,
-    edits: &mut Vec<Edit>,
+    edits: &mut Plan,
 ) -> Result<(), AllocError>
     requires loads_nothing { loaded_by change.now ≡ None }
     requires found { target ≡ target_of (reading model.now) change.now }
     requires one { resolves_all change.now ≡ false }
-    ensures { OnOk result (edits.new.items ≡ edits.old.items ++ e.made_edits (reading model.now) change.now) }
+    ensures { OnOk result (edits.new ≡ edits.old ++ e.made_edits (reading model.now) change.now) }
 {
     if let Change::At(end, Act::Resolve(index)) = change {
-        return push_joining(model, *end, *index, target, edits);
+        return push_joining(alloc, model, *end, *index, target, edits);
     }
     if let Some(edit) = made_edit(model, change) {
-        edits.push(edit)?;
+        edits.push(alloc, edit)?;
     }
     Ok(())
 }
 
-/// Adds the edits that put a link in the place of a proxy and of its counterpart, after both are cut. If `target` is `None`, adds no edit.
+/// Adds the edits that put a new link in the place of a proxy. If the proxy has a counterpart (the proxy of the same link at the opposite
+/// end), the link takes the place of the counterpart too. The edits that cut the links of these proxies must come before. If `target` is
+/// `None`, adds no edit.
 pub(crate) fn push_joining<L: LinkStore>(
+    alloc: Global,
     model: &ModelRef<L>,
     end: End,
     index: u32,
     target: Option<ResolvedProxy>,
-    edits: &mut Vec<Edit>,
+    edits: &mut Plan,
 ) -> Result<(), AllocError>
-    ensures { OnOk result (edits.new.items ≡ edits.old.items ++ option_map_or (e.joining_edits (reading model.now) end index) target []) }
+    ensures { OnOk result (edits.new ≡ edits.old ++ option_map_or (e.joining_edits (reading model.now) end index) target []) }
 {
     let Some(target) = target else {
         return Ok(());
     };
-    edits.push(Edit::Put(put_at(model, end, index, target.object)))?;
+    edits.push(alloc, Edit::Put(put_at(model, end, index, target.object)))?;
     if let Some(other) = target.counterpart {
-        edits.push(back_edit(model, other))?;
+        edits.push(alloc, back_edit(model, other))?;
     }
     Ok(())
 }
 
-/// A new link is put last at its opposite end. The edit that then moves it to the index of `other`, the counterpart that it replaces.
+/// The edit that moves a new link, at its opposite end, from the last index to the index of `other`, the counterpart that the link
+/// replaces. A new link is put last at its opposite end.
 fn back_edit<L: LinkStore>(model: &ModelRef<L>, other: Counterpart) -> Edit
     ensures { result ≡ e.back_edit (reading model.now) other }
 {
@@ -106,8 +112,8 @@ fn back_edit<L: LinkStore>(model: &ModelRef<L>, other: Counterpart) -> Edit
     }
 }
 
-/// The edit that a set, an addition or a move makes at a reference, after its cuts. `None` if a set or an addition makes no new link, and
-/// for any other change.
+/// The edit that a set, an addition or a move makes at a reference, after the cuts of the change. `None` if a set or an addition makes no
+/// new link, and for any other change.
 fn made_edit<L: LinkStore>(model: &ModelRef<L>, change: &Change) -> Option<Edit>
     ensures { result ≡ e.made_edit (reading model.now) change.now }
 {
@@ -137,8 +143,8 @@ fn set_put<L: LinkStore>(model: &ModelRef<L>, end: End, value: &Value) -> Option
     }
 }
 
-/// The edit that adds an object to a reference. `None` if the value is no object, if the list has the value already, or if the feature is
-/// an attribute.
+/// The edit that adds an object to a reference, whose list never has an object twice. `None` if the value is no object, if the list has the
+/// value already, or if the feature is an attribute.
 fn add_put<L: LinkStore>(
     model: &ModelRef<L>,
     end: End,
@@ -164,7 +170,8 @@ fn new_put<L: LinkStore>(model: &ModelRef<L>, end: End, index: u32, value: &Valu
     }
 }
 
-/// The edits that a change makes of objects, attribute values and URIs.
+/// The edits that a change makes of objects, attribute values and URIs. `removal` has the objects that the change destroys, if there are
+/// any.
 pub(crate) fn value_edits<L: LinkStore>(
     alloc: Global,
     model: &ModelRef<L>,
@@ -217,7 +224,7 @@ fn act_edits<L: LinkStore>(alloc: Global, model: &ModelRef<L>, end: End, act: Ac
 {
     match act {
         Act::Set(value) => set_edits(alloc, model, end, value),
-        Act::Unset => put_list(alloc, end, NewValues::from_seq(Seq::new(alloc)), false),
+        Act::Unset => put_list(alloc, end, NewValues::none(alloc), false),
         Act::Add(value, index) => add_value(alloc, model, end, value, index),
         Act::Remove(index) => take_value(alloc, end, index),
         Act::RemoveValue(value) => take_first(alloc, model, end, &value),
@@ -236,7 +243,7 @@ fn load_edits<L: LinkStore>(
     ensures { IfOk result (λ p. p ≡ loaded_values model.now.metamodel (reading model.now).next doc) }
 {
     let edits = doc_loader::value_edits(alloc, model.meta(), model.next(), doc)?;
-    Ok(ValuePlan::from_seq(Seq::from_vec(edits)))
+    Ok(ValuePlan::from_vec(edits))
 }
 
 /// The edits that destroy the objects of a removal.
@@ -244,7 +251,7 @@ fn drop_edits(alloc: Global, removal: &Removal) -> Result<ValuePlan, AllocError>
     ensures { IfOk result (λ p. p ≡ map DropObject removal.now.objects.items) }
 {
     let edits = drop_each(alloc, &removal.objects)?;
-    Ok(ValuePlan::from_seq(Seq::from_vec(edits)))
+    Ok(ValuePlan::from_vec(edits))
 }
 
 fn drop_each(alloc: Global, objects: &[ObjectNo]) -> Result<Vec<ValueEdit>, AllocError>

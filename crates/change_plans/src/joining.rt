@@ -21,8 +21,9 @@ pub(crate) struct Joint {
     pub target: ResolvedProxy,
 }
 
-/// What was resolved so far. `joints` has the resolved proxies, in order; `gone` the locations of these proxies and of their counterparts;
-/// `linked` the objects that took these locations, each with its reference.
+/// What was resolved so far. `joints` has the resolved proxies, in order. `gone` has the locations of these proxies and of their
+/// counterparts. `linked` has a key for each of these locations: the object and the feature of the location, and the object that has
+/// replaced the proxy there.
 #[derive(Drop)]
 pub(crate) struct Progress {
     pub joints: Vec<Joint>,
@@ -30,7 +31,8 @@ pub(crate) struct Progress {
     linked: Keys,
 }
 
-/// Finds out how all proxies of a model are resolved; `leads` has them in order. Fails only if memory is refused.
+/// Finds out how all proxies of a model are resolved. `leads` has all proxies, in the order in which they are tried. Fails only if memory
+/// is refused.
 pub(crate) fn resolve_all<L: LinkStore>(
     alloc: Global,
     model: &ModelRef<L>,
@@ -64,7 +66,7 @@ impl Progress {
         }
     }
 
-    /// Adds a proxy to what was resolved, unless its resolve is refused or no object is at its address.
+    /// Adds the proxy of `lead` to what was resolved, unless the resolve of this proxy is refused or no object is at its address.
     fn resolve<L: LinkStore>(
         &mut self,
         model: &ModelRef<L>,
@@ -79,8 +81,8 @@ impl Progress {
         }
     }
 
-    /// The target to which a proxy is resolved after the earlier proxies; `None` if its resolve is refused or no object is at its address.
-    /// Takes no memory.
+    /// The target to which the proxy of `lead` is resolved, after the earlier proxies were resolved. `None` if its resolve is refused then,
+    /// or if no object is at its address. Takes no memory.
     fn target<L: LinkStore>(
         &self,
         model: &ModelRef<L>,
@@ -101,9 +103,9 @@ impl Progress {
         }
     }
 
-    /// Whether the proxy at `site` can't be resolved to `target` after the earlier proxies were resolved. There are four reasons: the proxy
-    /// is gone; the object at its address is of a wrong type; this object is a value of the end already; the reference has an opposite, and
-    /// the proxy has no counterpart. Takes no memory.
+    /// Whether the proxy at `site` can't be resolved to `target` after the earlier proxies were resolved. There are four reasons: an
+    /// earlier resolve has replaced the proxy; the object at the proxy's address is not of the reference's type; this object is a value of
+    /// the reference already; the reference has an opposite, and the proxy has no counterpart. Takes no memory.
     fn is_refused<L: LinkStore>(
         &self,
         model: &ModelRef<L>,
@@ -133,7 +135,8 @@ impl Progress {
         }
     }
 
-    /// Adds the counterpart of a proxy that is resolved.
+    /// Adds the counterpart `other` of a resolved proxy: its location to `gone`, and to `linked` the referring object, which replaces it.
+    /// `site` is the location of the resolved proxy, and `target` its target.
     fn add_far(
         &mut self,
         site: ProxySite,
@@ -152,8 +155,9 @@ impl Progress {
     }
 }
 
-/// The counterpart of the proxy at `site`, which leads to `object`. The counterpart is the first proxy at the opposite end that leads back
-/// to the referring object. `None` if there is no such proxy, or if the reference has no opposite. Takes no memory.
+/// The counterpart of the proxy at `site`; `object` is the object at the address of this proxy. The counterpart is the first proxy at the
+/// opposite end that leads back to the referring object. `None` if no proxy there leads back, or if the reference has no opposite. Takes no
+/// memory.
 fn counterpart<L: LinkStore>(
     model: &ModelRef<L>,
     first: &FirstLeads,

@@ -1,4 +1,5 @@
-//! The plans of changes that edit only links. For a change that puts one link and edits nothing else, the plan is the link alone.
+//! The plans of changes that edit only links. If a change puts one link and edits nothing else, and no adapter has to be notified, the link
+//! alone takes the place of the plan.
 ghost use Rattle.std.specs.Prelude.{◌≡◌, ◌++◌, [], List, false, true, IfErr, IfOk, IfSome, None, Some, if◌then◌else◌};
 ghost use Rattle.mm_types.specs.Shapes.{shape};
 ghost use Rattle.mm_types.specs.declared.value.Value.TheVariants.{Object};
@@ -22,8 +23,8 @@ use notice_chain::Chain;
 use std::alloc::Global;
 
 /// The edits of links that a change makes, or the first refusal that planning finds. Adds the notifications to `chain` if `is_heard`, that
-/// is, if an adapter may have to get them. This is `plan` for an act at a reference, other than a resolve. If memory is refused, `chain`
-/// may have some of the notifications.
+/// is, if an adapter may have to get them. The change must be an act at a reference, other than a resolve. It must not be refused early.
+/// `plan` does the same for changes of all kinds. If memory is refused, `chain` may have some of the notifications.
 pub fn plan_links<L: LinkStore>(
     alloc: Global,
     model: &ModelRef<L>,
@@ -44,9 +45,9 @@ pub fn plan_links<L: LinkStore>(
     Ok(edits)
 }
 
-/// The link that a set puts, if the plan of the set puts this link and does nothing else; otherwise `None`. The result is a link exactly if
-/// four conditions hold: the end is a reference without a value; the value is an object; the set is not refused; and the set displaces no
-/// link. Takes no memory.
+/// The link that a set puts, if the set puts this link and edits nothing else; otherwise `None`. The set must not be refused early. The
+/// result is a link exactly if four conditions hold: the end is a reference without a value; the value is an object; planning finds no
+/// refusal of the set; and the set displaces no link. Takes no memory.
 #[inline(always)]
 pub fn lone_set<L: LinkStore>(model: &ModelRef<L>, end: End, value: &Value) -> Option<NewLink>
     requires asked { early_refusal (reading model.now) (At end (Set value.now)) ≡ None }
@@ -57,9 +58,9 @@ pub fn lone_set<L: LinkStore>(model: &ModelRef<L>, end: End, value: &Value) -> O
     put_of_set(model, end, value)
 }
 
-/// The link that an addition puts, if the plan of the addition puts this link and does nothing else; otherwise `None`. The result is a link
-/// exactly if four conditions hold: the end is a reference; the value is an object that the list lacks; the addition is not refused; and
-/// the addition displaces no link. Takes no memory.
+/// The link that an addition puts, if the addition puts this link and edits nothing else; otherwise `None`. The addition must not be
+/// refused early. The result is a link exactly if four conditions hold: the end is a reference; the value is an object that the list lacks;
+/// planning finds no refusal of the addition; and the addition displaces no link. Takes no memory.
 #[inline(always)]
 pub fn lone_add<L: LinkStore>(
     model: &ModelRef<L>,
@@ -121,7 +122,7 @@ fn put_of_add<L: LinkStore>(
 }
 
 /// Whether an addition of an object makes no link. The addition must displace no link. So if the feature is a containment, the object has
-/// no container. Then the list does not have the object, and is not searched.
+/// no container, and the list can't have the object already: the list is not searched.
 #[inline(always)]
 fn adds_no_link<L: LinkStore>(
     model: &ModelRef<L>,

@@ -13,7 +13,7 @@ use mm_types::{End, ObjectNo, Refused, ResourceNo, Value, limits};
 use models::{ModelRef, contents_end};
 use notice_chain::{Chain, Notice, NoticeKind};
 use resource_docs::Doc;
-use std::alloc::AllocError;
+use std::alloc::{AllocError, Global};
 
 /// Why a document can't be loaded into a resource: `Limit` or `NotEmpty`. Takes no memory.
 pub(crate) fn load_refusal<L: LinkStore>(
@@ -33,9 +33,11 @@ pub(crate) fn load_refusal<L: LinkStore>(
     None
 }
 
-/// Adds notifications to a chain, one for each root of a document, in the order of the roots: `end` gains the root. `end` has no values
-/// before. The first object of the document gets the number `next`.
+/// Adds the notifications of a load to a chain. Each root of a document has one notification, which says that `end` gains the root; the
+/// notifications are in the order of the roots. Before the load `end` must have no values. `roots` has the numbers that the roots have in
+/// the document, and `next` is the number that the first object of the document gets in the model.
 pub(crate) fn root_notices(
+    alloc: Global,
     next: usize,
     end: End,
     roots: &[ObjectNo],
@@ -46,12 +48,13 @@ pub(crate) fn root_notices(
     ensures { OnOk result (chain.new ≡ chain.old ++ map (root_notice_of next end) (enumerate_from 0 roots.now)) }
 {
     'roots: for (i, root) in roots.iter().enumerate() {
-        chain.push(root_notice(next, end, i as u32, *root))?;
+        chain.push(alloc, root_notice(next, end, i as u32, *root))?;
     }
     Ok(())
 }
 
-/// The notification when an end gains a root of a document at a position. The end has the earlier roots of the document already.
+/// The notification when an end gains a root of a document at a position. The end has the earlier roots of the document by then. `root` is
+/// the number of the root in the document, and `next` the number that the first object of the document gets in the model.
 fn root_notice(next: usize, end: End, position: u32, root: ObjectNo) -> Notice
     requires fits { IsNumbered next root }
     ensures { result ≡ root_notice_of next end (position, root) }

@@ -5,7 +5,7 @@ use notice_chain::Chain;
 use proxies::{Resolved, ResolvedProxy};
 use removal::Removal;
 
-/// What planning finds besides edits. The answers of some changes are made of this finding.
+/// What planning finds besides the edits and the notifications. The answers of some changes are made of this finding.
 #[derive(Drop)]
 pub enum Finding {
     /// Nothing: the answer does not depend on the plan.
@@ -15,7 +15,7 @@ pub enum Finding {
     /// The target of a proxy that is resolved: the object at the proxy's address, and the proxy of the same link at the opposite end, if
     /// there is one.
     Target(ResolvedProxy),
-    /// For a resolve of all proxies: how many proxies are resolved, and how many are left.
+    /// For a resolve of all proxies: how many proxies are resolved, with two proxies of one link counted as one, and how many are left.
     Counts(Resolved),
 }
 

@@ -34,21 +34,23 @@ use proxies::{ResolvedProxy, resolve_refusal};
 use removal::{LinkEnd, Removal};
 use std::alloc::{AllocError, Global};
 
-/// The plan of a change that is not refused early (`early_refusal`), or the first refusal that planning finds. The notifications are made
-/// only if `is_heard`, that is, if an adapter may have to get them.
+/// The plan of a change, or the first refusal that planning finds. The change must not be refused early (`early_refusal`). The
+/// notifications are made only if `is_heard`, that is, if an adapter may have to get them.
 ///
-/// `WrongType` if the value is not of the feature's type. `TextLength` if a text has more than 65,535 bytes. `Index` if a removal, a move
-/// or a resolve names an index at which no value is, or if an addition would leave a gap before the new value. `Duplicate` if a unique list
-/// has the value that is added at an index. `Bound` if an end that has to gain a value is full. `Recursive` if an object would become a
-/// part of itself. `Limit` if 1,000,000 objects or 100,000 resources were made, or if an end that has to gain a value has 1,000,000 values.
-/// `ResourceExists` if a resource has the URI.
+/// The refusals of a change are looked for in the order in which they are named here. `WrongType` if the value is not of the feature's
+/// type. `TextLength` if a text has more than 65,535 bytes. `Index` if a removal or a move names an index at which no value is, or if an
+/// addition would leave a gap before the new value. `Duplicate` if a unique list has the value that is added at an index. `Bound` if an end
+/// that has to gain a value is full: it has as many values as its upper bound, which is above 1. `Recursive` if an object would be put into
+/// itself or into an object below it. `Limit` if an object is to be made and 1,000,000 were made already, if a resource is to be made and
+/// there are 100,000 already, or if an end that has to gain a value has 1,000,000 values. `ResourceExists` if a resource has the URI.
 ///
-/// For a proxy to be resolved: `WrongType` if the feature is an attribute, or if the object at the address of the proxy is not of the
-/// feature's type. `Duplicate` if the end has the object at the address already. `NotProxy` if the value at the index is no proxy.
-/// `Unloaded` if no resource has the URI of the proxy. `Unresolved` if no object is at the address. `Unmatched` if the reference has an
-/// opposite, but no proxy at the opposite end leads back to the referring object.
+/// For a resolve of one proxy: `WrongType` if the feature is an attribute, or if the object at the address of the proxy is not of the
+/// feature's type. `Index` if no value is at the index. `Duplicate` if the end has the object at the address already. `NotProxy` if the
+/// value at the index is no proxy. `Unloaded` if no resource has the URI of the proxy. `Unresolved` if no object is at the address.
+/// `Unmatched` if the reference has an opposite, but no proxy at the opposite end leads back to the referring object.
 ///
-/// For a document: `Limit` if more than 1,000,000 objects would then have been made in all. `NotEmpty` if the resource has roots.
+/// For a load: `Limit` if more than 1,000,000 objects would have been made in all, those of the document included. `NotEmpty` if the
+/// resource has roots.
 ///
 /// `Memory` only if no other refusal applies. A resolve of one proxy is different: its target is looked for first, so `Memory` may be
 /// returned though another refusal applies.
@@ -69,7 +71,7 @@ pub fn plan<L: LinkStore>(
     Ok(made(alloc, model, change, target, is_heard)?)
 }
 
-/// The plan of a change that is not refused. Fails only if memory is refused.
+/// The plan of a change. The change must not be refused. Fails only if memory is refused.
 fn made<L: LinkStore>(
     alloc: Global,
     model: &ModelRef<L>,
@@ -114,9 +116,9 @@ fn finding(removal: Option<Removal>, target: Option<ResolvedProxy>) -> Finding
     }
 }
 
-/// For a change that is not refused and doesn't resolve all proxies: its edits of links, its edits of values, and its notifications. The
-/// notifications are made only if `is_heard`. `removal` has the objects that the change destroys, if there are any. `target` is the target
-/// of the proxy that the change resolves, if it resolves one. Fails only if memory is refused.
+/// The edits of links that a change makes, its edits of values, and its notifications. The change must not be refused, and must not resolve
+/// all proxies. The notifications are made only if `is_heard`. `removal` has the objects that the change destroys, if there are any.
+/// `target` is the target of the proxy that the change resolves, if it resolves one. Fails only if memory is refused.
 fn edits_and_notices<L: LinkStore>(
     alloc: Global,
     model: &ModelRef<L>,
@@ -136,14 +138,14 @@ fn edits_and_notices<L: LinkStore>(
     ensures chain { IfOk result (λ p. p.2 ≡ (if is_heard then t.chain (reading model.now) change else [])) }
 {
     model.lemma_is_legal();
-    let mut chain = Chain::new(alloc);
+    let mut chain = Chain::none(alloc);
     let edits = links_and_notices(alloc, model, &change, removal, target, is_heard, &mut chain)?;
     let values = value_edits(alloc, model, change, removal)?;
     Ok((edits, values, chain))
 }
 
 /// The edits of links that a change makes. Adds the notifications of the change to `chain` if `is_heard`, that is, if an adapter may have
-/// to get them. Fails only if memory is refused.
+/// to get them. The change must not be refused, and must not resolve all proxies. Fails only if memory is refused.
 pub(crate) fn links_and_notices<L: LinkStore>(
     alloc: Global,
     model: &ModelRef<L>,
@@ -233,8 +235,8 @@ pub(crate) fn set_late_refusal<L: LinkStore>(
     set_refusal(model, end, value)
 }
 
-/// The first refusal that planning finds for a set to a value that the end does not have yet: `WrongType`, `TextLength`, `Bound`,
-/// `Recursive` or `Limit`.
+/// The first refusal that planning finds for a set. The end must not have the value yet. The refusals are, in this order: `WrongType`,
+/// `TextLength`, `Bound`, `Recursive` or `Limit`.
 #[inline(always)]
 pub(crate) fn new_set_refusal<L: LinkStore>(
     model: &ModelRef<L>,
@@ -253,8 +255,8 @@ pub(crate) fn new_set_refusal<L: LinkStore>(
     }
 }
 
-/// The first refusal that planning finds for an addition: `WrongType`, `TextLength`, `Index`, `Duplicate`, `Bound`, `Recursive` or `Limit`.
-/// The caller passes in `repeats` whether the values of the end are unique and the end already has the value.
+/// The first refusal that planning finds for an addition: `WrongType`, `TextLength`, `Index`, `Duplicate`, `Bound`, `Recursive` or `Limit`,
+/// in this order. `repeats` must say whether the list is unique and has the value already.
 #[inline(always)]
 pub(crate) fn add_late_refusal<L: LinkStore>(
     model: &ModelRef<L>,
@@ -291,7 +293,7 @@ fn is_past<L: LinkStore>(model: &ModelRef<L>, end: End, index: Option<u32>) -> b
     }
 }
 
-/// Why no resource of a URI can be made: `TextLength`, `Limit` or `ResourceExists`.
+/// Why no resource with the URI `uri` can be made: `TextLength`, `Limit` or `ResourceExists`.
 fn uri_refusal<L: LinkStore>(model: &ModelRef<L>, uri: &Text) -> Option<Refused>
     ensures { result ≡ refusals.uri_refusal (reading model.now) uri.now }
 {
@@ -346,7 +348,8 @@ fn set_refusal<L: LinkStore>(model: &ModelRef<L>, end: End, value: &Value) -> Op
     }
 }
 
-/// Adds to a chain the notifications of a change that cuts the links in `link_ends`.
+/// Adds the notifications of a change to a chain. `link_ends` must have the links that the change cuts. The change must not be refused, and
+/// must not resolve all proxies.
 pub(crate) fn add_notices<L: LinkStore>(
     alloc: Global,
     model: &ModelRef<L>,
@@ -366,7 +369,7 @@ pub(crate) fn add_notices<L: LinkStore>(
     }
     if let Change::Load(resource, doc) = change {
         let roots = contents_end(model.meta(), *resource);
-        return root_notices(model.next(), roots, doc.roots.as_slice(), chain);
+        return root_notices(alloc, model.next(), roots, doc.roots.as_slice(), chain);
     }
     notices(alloc, model, change, link_ends, target, chain)
 }

@@ -10,8 +10,8 @@ use models::ModelRef;
 use proxies::{ResolvedProxy, target_at};
 use std::alloc::{AllocError, Global};
 
-/// The target of the proxy that a change resolves. `None` if the change is no resolve of one proxy, or if the proxy has no target. Fails
-/// only for a resolve of one proxy, and only if memory is refused.
+/// The target of the proxy that a change resolves. `None` if the change is no resolve of one proxy, if no proxy is at the index that the
+/// change names, or if no object is at the address of the proxy. Fails only for a resolve of one proxy, and only if memory is refused.
 pub(crate) fn target_of<L: LinkStore>(
     alloc: Global,
     model: &ModelRef<L>,

@@ -13,8 +13,7 @@ use crate::edits::push_joining;
 use crate::joining::{Joint, Progress, resolve_all};
 use crate::planned::{Finding, Planned};
 use handshake::{add_counterpart, push_link_end, push_resolved};
-use links::{Edit, LinkStore};
-use mm_types::Seq;
+use links::{Edit, LinkStore, Plan};
 use mm_values::ValuePlan;
 use models::ModelRef;
 use notice_chain::Chain;
@@ -35,7 +34,7 @@ pub(crate) fn all_resolved<L: LinkStore>(
     planned(alloc, model, leads.as_slice(), &progress, is_heard)
 }
 
-/// The plan that resolves the proxies of `progress`.
+/// The plan that resolves all proxies. `leads` must have all proxies, and `progress` those that are resolved.
 fn planned<L: LinkStore>(
     alloc: Global,
     model: &ModelRef<L>,
@@ -50,7 +49,7 @@ fn planned<L: LinkStore>(
     model.lemma_is_legal();
     let joints = progress.joints.as_slice();
     let edits = edits(alloc, model, joints)?;
-    let mut chain = Chain::new(alloc);
+    let mut chain = Chain::none(alloc);
     if is_heard {
         resolved_notices(alloc, model, joints, &mut chain)?;
     }
@@ -59,46 +58,46 @@ fn planned<L: LinkStore>(
             done: joints.len(),
             left: left(leads, &progress.gone),
         }),
-        edits: Seq::from_vec(edits),
+        edits,
         values: ValuePlan::none(alloc),
         chain,
     })
 }
 
-/// The edits that resolve proxies, one after another.
+/// The edits that resolve the proxies of `joints`, one after another.
 fn edits<L: LinkStore>(
     alloc: Global,
     model: &ModelRef<L>,
     joints: &[Joint],
-) -> Result<Vec<Edit>, AllocError>
-    ensures { IfOk result (λ es. es.items ≡ flat_map (spec.edits_by (reading model.now)) joints.now) }
+) -> Result<Plan, AllocError>
+    ensures { IfOk result (λ es. es ≡ flat_map (spec.edits_by (reading model.now)) joints.now) }
 {
-    let mut edits = Vec::new(alloc);
+    let mut edits = Plan::none(alloc);
     'joints: for joint in joints {
         push_edits(alloc, model, *joint, &mut edits)?;
     }
     Ok(edits)
 }
 
-/// Adds the edits that resolve a proxy.
+/// Adds the edits that resolve the proxy of `joint`.
 fn push_edits<L: LinkStore>(
     alloc: Global,
     model: &ModelRef<L>,
     joint: Joint,
-    edits: &mut Vec<Edit>,
+    edits: &mut Plan,
 ) -> Result<(), AllocError>
-    ensures { OnOk result (edits.new.items ≡ edits.old.items ++ spec.edits_by (reading model.now) joint) }
+    ensures { OnOk result (edits.new ≡ edits.old ++ spec.edits_by (reading model.now) joint) }
 {
     let Joint { site, target } = joint;
     let end = far_end(site.object, site.feature);
     let mut link_ends = Vec::new(alloc);
     push_link_end(alloc, end, model.value_in(end, site.index), &mut link_ends)?;
     add_counterpart(alloc, model, Some(target), &mut link_ends)?;
-    push_cuts(link_ends, edits)?;
-    push_joining(model, end, site.index, Some(target), edits)
+    push_cuts(alloc, link_ends, edits)?;
+    push_joining(alloc, model, end, site.index, Some(target), edits)
 }
 
-/// Adds to `chain` the notifications of proxies that are resolved.
+/// Adds to `chain` the notifications of the proxies of `joints`, which are resolved one after another.
 fn resolved_notices<L: LinkStore>(
     alloc: Global,
     model: &ModelRef<L>,
@@ -121,7 +120,7 @@ fn resolved_notices<L: LinkStore>(
     Ok(())
 }
 
-/// How many proxies are left: those of `leads` whose locations are not in `gone`.
+/// How many proxies are left: how many of `leads` have a location that is not in `gone`.
 fn left(leads: &[Lead], gone: &Keys) -> usize
     ensures { result ≡ length (filter (λ x. not (has gone.now (key_of x.site))) leads.now) }
 {

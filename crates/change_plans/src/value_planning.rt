@@ -23,8 +23,9 @@ use notice_chain::Chain;
 use std::alloc::{AllocError, Global};
 
 /// The edits that a change makes of objects and attribute values, or the first refusal that planning finds. Adds the notifications to
-/// `chain` if `is_heard`, that is, if an adapter may have to get them. This is `plan` for a change that makes an object or changes an
-/// attribute. If memory is refused, `chain` may have some of the notifications.
+/// `chain` if `is_heard`, that is, if an adapter may have to get them. The change must make an object, or be an act at an attribute, other
+/// than a resolve. It must not be refused early. `plan` does the same for changes of all kinds. If memory is refused, `chain` may have some
+/// of the notifications.
 pub fn plan_values<L: LinkStore>(
     alloc: Global,
     model: &ModelRef<L>,
@@ -48,7 +49,7 @@ pub fn plan_values<L: LinkStore>(
     Ok(values)
 }
 
-/// The edit that sets an attribute, and its notification. The set must not be refused. Fails only if memory is refused.
+/// The edit that sets an attribute, and the notification of the set. The set must not be refused. Fails only if memory is refused.
 pub fn plan_set<L: LinkStore>(
     alloc: Global,
     model: &ModelRef<L>,
@@ -66,10 +67,7 @@ pub fn plan_set<L: LinkStore>(
         does: ChangeKind::Gains(value.clone()?),
     };
     let notice = notice(alloc, model, gain)?;
-    Ok((
-        set_edits(alloc, model, end, value),
-        Chain::one(alloc, notice),
-    ))
+    Ok((set_edits(alloc, model, end, value), Chain::one(notice)))
 }
 
 /// The first refusal of a set, other than `Memory`. The refusals of `early_refusal` come first, and then the refusals that planning finds.

@@ -25,13 +25,13 @@ pub struct Options<'a> {
     pub save: Vec<&'a str>,
     /// The output options: `--echo`, `--number` and `--stop`.
     pub dress: Dress,
-    /// Whether the exit status is 4 if the run came to its end, and a line was refused or bad (`--strict`).
+    /// Whether the exit status is 4, and not 0, if a line was refused or bad (`--strict`).
     pub strict: bool,
     /// Whether the program holds a dialogue (`--live`). Without a journal it answers each line before it reads the next line. With a
-    /// journal it may hold answers back, at the longest until it waits for input.
+    /// journal it may hold answers back, but writes them before it waits for input.
     pub live: bool,
-    /// The file of the journal (`--journal`); `None` if there is no journal. A journal keeps each line that asks for a change of the model
-    /// and is done.
+    /// The file of the journal (`--journal`); `None` if there is no journal. A journal keeps each line that asks for a change of the model,
+    /// if the line was done.
     pub journal: Option<&'a str>,
     /// Whether the program says on standard error what to fix (`--explain`).
     pub explain: bool,
@@ -106,7 +106,7 @@ fn command<'a>(alloc: Global) -> Result<Command<'a>, AllocError>
         .arg(flag(alloc, "explain", EXPLAIN))
 }
 
-/// Whether the words set an option that takes no value.
+/// Whether the words give an option that takes no value.
 fn is_set(matches: &ArgMatches<'_>, name: &str) -> bool
     ensures { result ≡ sets name.now (rows_of (found_of matches.now)) }
 {
@@ -130,7 +130,7 @@ fn values_of<'a>(
     }
 }
 
-/// The usage of the program: one line, which begins with a title. Fails only if memory is refused.
+/// The usage of the program: one line, which begins with `Usage:`. Fails only if memory is refused.
 pub fn usage_of(alloc: Global) -> Result<String, AllocError> {
     command(alloc)?.render_usage()
 }

@@ -1,9 +1,8 @@
 -- The nodes above a node after one step up.
-use Rattle.std.proofs.Common.{◌≡◌, suc, ◌<◌, Bool, true, false, ◌||◌, List, [], ◌∷◌, ◌++◌, length, append_assoc, Option, option_map, unwrap_or, is_some, Some, None, refl, sym, ap, ◌∙◌, arith}
+use Rattle.std.proofs.Common.{◌≡◌, suc, ◌<◌, Bool, true, false, ◌||◌, [], ◌∷◌, length, Option, option_map, unwrap_or, is_some, Some, None, refl, sym, ap, ◌∙◌, arith}
 use Rattle.std.specs.List.{last_or, list_any}
 use Rattle.std.specs.Option.{option_map_or}
 use Rattle.std.proofs.lemmas.Bool.{true≢false}
-use Rattle.std.proofs.lemmas.List.{append-nil}
 use Rattle.std.proofs.lemmas.Option.{none-some, same_Some}
 use Rattle.mm_types.specs.Same.{same_node}
 use Rattle.mm_types.specs.declared.end.End.{End}
@@ -42,14 +41,6 @@ above-root s x legal free h =
 -- after each step up fewer nodes are above
 pub fewer_above : (s : Links) (x y : Node) → IsLegalSet s → HasNoCycle s → Some y ≡ parent s x → length (above s y) < length (above s x)
 fewer_above s x y legal free h = let one : length (above s x) ≡ suc (length (above s y)) = ap length (above-parent s x y legal free h) in omega (arith, one)
-
--- the next node up is the first of the nodes above x; above a root there are none
-pub found-next : (s : Links) (x y : Node) (found more : List Node) → IsLegalSet s → HasNoCycle s → Some y ≡ parent s x → more ≡ found ++ y ∷ [] → more ++ above s y ≡ found ++ above s x
-found-next s x y found more legal free h made =
-    ap (λ (ns : List Node). ns ++ above s y) made ∙ append_assoc found (y ∷ []) (above s y) ∙ ap (λ (ns : List Node). found ++ ns) (sym (above-parent s x y legal free h))
-
-pub found-root : (s : Links) (x : Node) (found : List Node) → IsLegalSet s → HasNoCycle s → None ≡ parent s x → found ≡ found ++ above s x
-found-root s x found legal free h = sym (ap (λ (ns : List Node). found ++ ns) (above-root s x legal free h) ∙ append-nil found)
 
 -- the next node up is above x; any other node is above x if it is above the next node
 pub is_above-here : (s : Links) (x y z : Node) → IsLegalSet s → HasNoCycle s → Some y ≡ parent s x → same_node z y ≡ true → list_any (same_node z) (above s x) ≡ true

@@ -1,5 +1,5 @@
--- The topmost among a node and the nodes above it, and the resource that an object is in. Both are computed from a function `up`, which
--- gives the nodes above a node, the nearest first.
+-- The topmost node among a node and the nodes above it, and the resource that an object is in. Both are computed from a function `up`,
+-- which gives the nodes above a node, the nearest first.
 use Rattle.std.specs.Prelude.{List, Option, Some, None, unwrap_or}
 use Rattle.std.specs.List.{last_or}
 use Rattle.mm_types.specs.declared.numbers.ObjectNo.{ObjectNo}

@@ -1,5 +1,5 @@
--- The containment forest, read off a model: the container of an object, and the contents of a node (EMF: EObject.eContainer, eContents,
--- eAllContents).
+-- The containment forest, read off a model: the object that contains an object, the objects that a node contains, and all objects below an
+-- object (EMF: EObject.eContainer, eContents, eAllContents).
 use Rattle.std.specs.Prelude.{ℕ, zero, suc, Bool, false, ◌&&◌, nat_lt, length, List, [], ◌∷◌, filter, flat_map, Option, Some, None, option_and_then}
 use Rattle.std.specs.List.{list_any}
 use Rattle.mm_types.specs.Same.{same_object}
@@ -11,11 +11,12 @@ use Rattle.mm_types.specs.declared.numbers.Node.TheVariants as node
 use Rattle.mm_types.specs.declared.end.End.{End}
 use Rattle.models.specs.Reading.{Reading, all_features_of, at_end, objects_of}
 
--- the objects that a node contains under those of the features fs that are containments, feature by feature, then by position
+-- the objects that a node contains under the containments among the features fs, feature by feature, and under each feature by position
 abbrev pub parts : Reading → Node → List FeatureNo → List ObjectNo
 parts r n fs = flat_map (λ f. objects_of (r.values (at_end n f))) (filter (is_containment r.metamodel) fs)
 
--- the objects that a node directly contains, by feature in the order of all features, then by position
+-- the objects that a node directly contains: feature by feature, in the order of all features of the node, and under each feature by
+-- position
 abbrev pub contents : Reading → Node → List ObjectNo
 contents r n = parts r n (all_features_of r n)
 
@@ -30,11 +31,12 @@ abbrev pub object_of_node : Node → Option ObjectNo
 object_of_node (node.Object o) = Some o
 object_of_node (node.Resource k) = None
 
--- the object that contains an object, if there is one
+-- the object that contains an object; none if no object contains it
 abbrev pub container : Reading → ObjectNo → Option ObjectNo
 container r o = option_and_then (λ (e : End). object_of_node e.node) (r.holder (node.Object o))
 
--- an object and the objects below it, down to a number of levels; each object comes before its contents
+-- the object o and the objects below it, at most a given number of levels in all: o alone is the first level. Each object comes before its
+-- contents
 abbrev pub tree : Reading → ℕ → ObjectNo → List ObjectNo
 tree r zero o = []
 tree r (suc k) o = o ∷ flat_map (tree r k) (contents r (node.Object o))

@@ -1,4 +1,5 @@
-//! The nodes above a node: whether a given node is among them, the topmost one, and the resource if the topmost one is a resource.
+//! What is above a node: the node that contains it, whether a given node is above it, and the topmost node; and the resource that an object
+//! is in.
 ghost use Rattle.std.specs.Prelude.{◌≡◌};
 ghost use Rattle.std.specs.List.{list_any};
 ghost use Rattle.std.specs.Option.{option_map};
@@ -11,8 +12,8 @@ ghost use Rattle.containment.specs.Above.{resource_of, root_of as root};
 use links::LinkStore;
 use mm_types::{Node, ObjectNo, ResourceNo};
 
-/// Whether `above` is among the nodes above `node` (EMF: EcoreUtil.isAncestor, if the two differ). No node is above itself. Takes no
-/// memory.
+/// Whether `above` is among the nodes above `node` (EMF: EcoreUtil.isAncestor, which is also true of an object and itself). No node is
+/// above itself. Takes no memory.
 pub fn is_under<L: LinkStore>(store: &L, node: Node, above: Node) -> bool
     requires legal { IsLegalSet (L.links store.now) }
     requires no_cycle { HasNoCycle (L.links store.now) }
@@ -28,8 +29,8 @@ pub fn is_under<L: LinkStore>(store: &L, node: Node, above: Node) -> bool
     false
 }
 
-/// The topmost among a node and the nodes above it: the node itself if nothing contains it (EMF: EcoreUtil.getRootContainer, but here a
-/// resource is a root). Takes no memory.
+/// The topmost node among a node and the nodes above it: the node itself if nothing contains it. The result is a resource if the node is a
+/// resource or is in one (EMF: EcoreUtil.getRootContainer, which gives the topmost object instead). Takes no memory.
 pub fn root_of<L: LinkStore>(store: &L, node: Node) -> Node
     requires legal { IsLegalSet (L.links store.now) }
     requires no_cycle { HasNoCycle (L.links store.now) }
@@ -42,7 +43,8 @@ pub fn root_of<L: LinkStore>(store: &L, node: Node) -> Node
     top
 }
 
-/// The resource that an object is in, directly or below other objects; `None` if it is in none (EMF: EObject.eResource). Takes no memory.
+/// The resource that an object is in, directly or below other objects; `None` if the object is in no resource (EMF: EObject.eResource).
+/// Takes no memory.
 pub fn holder_resource<L: LinkStore>(store: &L, object: ObjectNo) -> Option<ResourceNo>
     requires legal { IsLegalSet (L.links store.now) }
     requires no_cycle { HasNoCycle (L.links store.now) }
@@ -54,7 +56,7 @@ pub fn holder_resource<L: LinkStore>(store: &L, object: ObjectNo) -> Option<Reso
     }
 }
 
-/// The node that contains a node; `None` if nothing contains it, and for a resource. Takes no memory.
+/// The node that directly contains a node; `None` for a resource, and for an object that nothing contains. Takes no memory.
 pub fn parent_of<L: LinkStore>(store: &L, node: Node) -> Option<Node>
     requires legal { IsLegalSet (L.links store.now) }
     ensures { result ≡ option_map (λ e. e.node) (holder_of (L.links store.now) node) }

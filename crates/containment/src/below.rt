@@ -1,4 +1,5 @@
-//! Whether an object is above a node, by the shorter of two ways: up from the node, or down from the object.
+//! Whether an object is above a node, by two searches that take turns: up from the node, and down from the object. The first search that
+//! comes to a result decides.
 ghost use Rattle.std.specs.Prelude.{◌≡◌, ◌++◌, ◌∷◌, [], false, option_to_list, true};
 ghost use Rattle.std.specs.List.{list_any};
 ghost use Rattle.mm_types.specs.Same.{same_node};
@@ -19,11 +20,11 @@ use models::ModelRef;
 /// only the search upwards goes on.
 const MOST_WAITING: usize = 32;
 
-/// The numbers of the objects at which the search downwards still has to look. It then has to look at the objects below each of them too.
+/// The numbers of the objects at which the search downwards still has to look. The search has to look at all objects below them too.
 type Waiting = ArrayVec<u32, MOST_WAITING>;
 
-/// Whether an object is above a node. The search looks alternately at a node above the node and at an object below the object. So if the
-/// object has few objects below it, few steps show that the object is not above the node, however deep the node is. Takes no memory.
+/// Whether `object` is above `node`. Looks alternately at one of the nodes above `node`, the nearest first, and at one of the objects below
+/// `object`. So if few objects are below `object`, few steps decide, however deep `node` is. Takes no memory.
 pub(crate) fn is_object_above<L: LinkStore>(
     model: &ModelRef<L>,
     object: ObjectNo,
@@ -100,7 +101,7 @@ fn add_objects<L: LinkStore>(model: &ModelRef<L>, end: End, waiting: &mut Waitin
     true
 }
 
-/// Adds an object, if there is one, and returns whether there was capacity for it.
+/// Adds the object, if there is one. Returns false only if there is no capacity for the object.
 fn add_some(object: Option<ObjectNo>, waiting: &mut Waiting) -> bool
     ensures { result ≡ true → waiting_objects waiting.new.items ≡ waiting_objects waiting.old.items ++ option_to_list object }
 {

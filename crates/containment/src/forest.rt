@@ -34,8 +34,8 @@ pub(crate) fn may_contain<L: LinkStore>(model: &ModelRef<L>, node: Node) -> bool
     }
 }
 
-/// The objects that a node directly contains, by feature in the order of all features, and then by position (EMF: EObject.eContents). Fails
-/// only if memory is refused.
+/// The objects that a node directly contains: feature by feature, in the order of all features of the node, and under each feature by
+/// position (EMF: EObject.eContents, Resource.getContents). Fails only if memory is refused.
 pub fn contents<L: LinkStore>(
     alloc: Global,
     model: &ModelRef<L>,
@@ -44,7 +44,7 @@ pub fn contents<L: LinkStore>(
     ensures { IfOk result (λ r. r.items ≡ forest.contents (reading model.now) node) }
 {
     let mut out = Vec::new(alloc);
-    // Most classes contain nothing.
+    // Most classes have no containment.
     if !may_contain(model, node) {
         return Ok(out);
     }

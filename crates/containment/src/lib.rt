@@ -1,5 +1,5 @@
 //! Containment: the nodes above a node, the resource that an object is in, the objects that a node contains, all objects below a node, and
-//! whether a node is below another.
+//! whether a node is below a given node.
 #![tactic(auto)]
 
 mod above;

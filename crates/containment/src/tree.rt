@@ -14,8 +14,8 @@ use mm_types::{FeatureNo, Node, ObjectNo};
 use models::{ModelRef, at_end};
 use std::alloc::{AllocError, Global};
 
-/// An object and all objects below it, each before its contents (EMF: the object, then EObject.eAllContents). If no object has the number,
-/// the result has only that number. Fails only if memory is refused.
+/// An object and all objects below it, each before its contents (EMF: the object, then EObject.eAllContents). If no object has the number
+/// `object`, the result has only this number. Fails only if memory is refused.
 pub fn subtree<L: LinkStore>(
     alloc: Global,
     model: &ModelRef<L>,
@@ -27,8 +27,8 @@ pub fn subtree<L: LinkStore>(
     all_below(alloc, model, waiting)
 }
 
-/// All objects of a node: an object and all objects below it, or all objects in a resource; each before its contents. Fails only if memory
-/// is refused.
+/// All objects of a node: for an object, the object and all objects below it; for a resource, all objects in it. Each object comes before
+/// its contents. Fails only if memory is refused.
 pub fn node_subtree<L: LinkStore>(
     alloc: Global,
     model: &ModelRef<L>,
@@ -46,8 +46,8 @@ pub fn node_subtree<L: LinkStore>(
     }
 }
 
-/// The objects of `waiting` and all objects below them, each before its contents. The last object of `waiting` comes first. Fails only if
-/// memory is refused.
+/// The objects of `waiting`, from the last to the first, each followed by all objects below it. Each object comes before its contents.
+/// Fails only if memory is refused.
 fn all_below<L: LinkStore>(
     alloc: Global,
     model: &ModelRef<L>,
@@ -74,8 +74,9 @@ pub fn is_within<L: LinkStore>(model: &ModelRef<L>, above: Node, node: Node) -> 
 }
 
 /// Whether `node` is below `above`. A node that nothing contains is below no node, and no node is below an object that contains nothing. If
-/// an object has few objects below it, few steps show that a node is not below this object. A new object has few objects below it. So if a
-/// chain of objects grows at its bottom, the chain is not climbed to its top for each new object.
+/// few objects are below an object, few steps decide whether a node is below this object (`is_object_above`). A new object has few objects
+/// below it. So when a new object is put at the bottom of a long chain of objects, the test for a cycle does not climb the chain to its
+/// top.
 fn is_below<L: LinkStore>(model: &ModelRef<L>, above: Node, node: Node) -> bool
     requires apart { same_node above node ≡ false }
     ensures { result ≡ list_any (same_node above) ((reading model.now).above node) }

@@ -9,7 +9,7 @@ use Rattle.resource_docs.specs.declared.doc.Content.{Content}
 use Rattle.resource_docs.specs.declared.doc.Doc.{Doc}
 use Rattle.resource_docs.specs.declared.doc.DocObject.{DocObject}
 
--- an object of the document gets a number below OBJECTS, if the first object gets n
+-- if the first object of a document gets the number n, the object o of the document gets a number below OBJECTS
 abbrev pub IsNumbered : ℕ → ObjectNo → Type 0
 IsNumbered n o = n + o.0 < OBJECTS
 
@@ -30,8 +30,8 @@ IsShort c = length c.values ≤ LIST_VALUES
 abbrev pub IsShortObject : DocObject → Type 0
 IsShortObject o = All IsShort o.contents
 
--- if the first object of a document gets the number n, all objects of the document, and all objects that it names, get numbers below
--- OBJECTS; and no list has more than LIST_VALUES values
+-- the document is within the limits, if its first object gets the number n: all its objects, and all objects that it names as roots or as
+-- values, get numbers below OBJECTS; and no list has more than LIST_VALUES values
 pub record IsFitting (n : ℕ) (doc : Doc) : Type 0 where
   pub room : n + length doc.objects ≤ OBJECTS
   pub objects : All (IsFittingObject n) doc.objects

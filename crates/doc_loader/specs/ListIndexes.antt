@@ -1,4 +1,5 @@
--- The indexes of objects in the lists of a document. Only the lists of the lower features of pairs (`LoadEdits`) are needed.
+-- The indexes of objects in the lists that a document has under the lower features of pairs (`LoadEdits`). The edits of a load need no
+-- other indexes.
 use Rattle.std.specs.Prelude.{ℕ, List, [], ◌∷◌, flat_map, Option, Some, None, unwrap_or, if◌then◌else◌}
 use Rattle.std.specs.List.{enumerate_from}
 use Rattle.std.specs.Option.{option_or}
@@ -35,13 +36,13 @@ content_indexes m o c =
 abbrev pub all_indexes : Metamodel → List DocObject → List (ReferenceKey × ℕ)
 all_indexes m os = flat_map (of_object (content_indexes m)) (enumerate_from 0 os)
 
--- the last index that a list of keys with their indexes has for a reference key
+-- the index in the last entry for the reference key k, in a list of keys with their indexes; none if no entry is for k
 abbrev pub last_index : List (ReferenceKey × ℕ) → ReferenceKey → Option ℕ
 last_index [] k = None
 last_index (x ∷ xs) k = option_or (last_index xs k) (if same_reference_key x.0 k then Some x.1 else None)
 
--- the last index that the lists of a document have for the reference key k, or 0 if they have no index for k; os are the objects of the
--- document
+-- the index that the lists of a document have for the reference key k: the last one if there are several, and 0 if there is none; os are
+-- the objects of the document
 abbrev pub index_among : Metamodel → List DocObject → ReferenceKey → ℕ
 index_among m os k = unwrap_or (last_index (all_indexes m os) k) 0
 

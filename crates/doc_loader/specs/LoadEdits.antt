@@ -1,11 +1,12 @@
 -- The edits that make a document's links and proxies, in an order in which each link and proxy gets the position that the document says.
 -- Two features are called a pair if they are opposites and neither is a containment. The feature with the lower number is the lower feature
 -- of the pair; the feature with the higher number is the higher feature. First come the edits that put the roots. Then come the edits that
--- put the values of all references except the higher features: each value is put last into its list, so each list gets the order of the
--- document. These edits also put objects into the ends of the higher features. There the objects are in the order of their numbers. If the
--- document has a different order at an end of a higher feature, the links of this end are then cut, and put again in the order of the
--- document. Each link keeps the position that it had at the end of the lower feature. The proxies at the ends of the higher features come
--- last: by then the objects at these ends are in the order of the document, so each proxy can be put at its position.
+-- put the values of all references except the higher features: each value is put last into its list, so each list gets the order that it
+-- has in the document. The edits for the lower features also put objects into the ends of the higher features. There the objects are in the
+-- order of their numbers. If the document lists the objects at an end of a higher feature in a different order, the links of this end are
+-- then cut, and put again in the order of that list. Each link keeps the position that it had at the end of the lower feature. The proxies
+-- at the ends of the higher features come last: by then the objects at these ends are in the order in which the document lists them, so
+-- each proxy can be put at its position.
 use Rattle.std.specs.Prelude.{ℕ, suc, ◌&&◌, Bool, true, not, List, [], ◌∷◌, ◌++◌, flat_map, map, nat_le, is_some, if◌then◌else◌}
 use Rattle.std.specs.List.{enumerate_from}
 use Rattle.std.specs.Option.{option_map_or}
@@ -57,9 +58,9 @@ is_ascending_from k [] = true
 is_ascending_from k (value.Object a ∷ vs) = nat_le k a.0 && is_ascending_from (suc a.0) vs
 is_ascending_from k (v ∷ vs) = is_ascending_from k vs
 
--- If the value is an object a: the edits that cut the link between a and the object b, and put the link again. f is the lower feature of
--- the pair, and a has it. In the list of a under f, b gets the index that `index_of` gives. In the list of b under the higher feature, a
--- becomes the last value. No edits if the value is no object.
+-- If the value is an object a: the edits that cut the link between a and the object b, and put the link again. The link is at the end of a
+-- under f, the lower feature of the pair. In the list of a under f, b gets the index that `index_of` gives. In the list of b under the
+-- higher feature, a becomes the last value. No edits if the value is no object.
 abbrev pub puts_again : Metamodel → ℕ → (ReferenceKey → ℕ) → ObjectNo → FeatureNo → Value → List Edit
 puts_again m n index_of b f (value.Object a) =
     let e = object_end n a f in
@@ -74,6 +75,7 @@ abbrev pub is_higher : Metamodel → Content → Bool
 is_higher m c = is_some (lower_of (shape m c.feature) c.feature)
 
 -- whether the feature of a content is the higher feature of a pair, and the objects of the content are not in the order of their numbers
+-- (`is_ascending_from`)
 abbrev pub is_unordered : Metamodel → Content → Bool
 is_unordered m c = is_some (lower_of (shape m c.feature) c.feature) && not (is_ascending_from 0 c.values)
 

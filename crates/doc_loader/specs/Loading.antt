@@ -1,5 +1,5 @@
--- What the load of a document makes: the objects of the document, whose numbers go up from n; their values; and their links and proxies. At
--- each end a link has the position that the document says.
+-- What the load of a document makes: the objects of the document, their values, and their links and proxies. If the first object gets the
+-- number n, the object with the number i in the document gets n + i. At each end a link has the position that the document says.
 use Rattle.std.specs.Prelude.{ℕ, ◌+◌, ◌&&◌, Bool, List, [], ◌∷◌, ◌++◌, filter_map, flat_map, fold, map, position, Option, Some, None, unwrap_or, if◌then◌else◌}
 use Rattle.std.specs.List.{enumerate_from}
 use Rattle.std.specs.FinSet as set
@@ -28,7 +28,7 @@ use Rattle.resource_docs.specs.Read.{values_in}
 abbrev pub loaded_number : ℕ → ObjectNo → ObjectNo
 loaded_number n o = record { 0 = n + o.0 }
 
--- a value of a document after the load: an object is named by the number that it gets
+-- a value of a document after the load: an object is named by the number that it gets, and any other value stays as it is
 abbrev pub loaded_value : ℕ → Value → Value
 loaded_value n (value.Object b) = value.Object (loaded_number n b)
 loaded_value n v = v
@@ -73,14 +73,14 @@ abbrev pub far_index : Shape → Doc → ObjectNo → FeatureNo → ObjectNo →
 far_index a doc o f b g = if is_feature f a.containing then 0 else unwrap_or (position (same_value (value.Object o)) (values_in doc b g)) 0
 
 -- the link from the object o to the object b, which is at index i under the feature f of o; o and b are the numbers that the objects have
--- in the document
+-- in the document. The last argument is the opposite of f, or none
 abbrev pub link_to : Metamodel → ℕ → Doc → ObjectNo → FeatureNo → ℕ → ObjectNo → Option FeatureNo → Link
 link_to m n doc o f i b None = record { end = object_end n o f; index = i; far = Alone (loaded_number n b); container = (shape m f).containing }
 link_to m n doc o f i b (Some g) =
     joined_link (object_end n o f) i (far_end (loaded_number n b) g) (far_index (shape m f) doc o f b g) (shape m f).containing
 
--- the link or the proxy for the value at the index i under the feature f of the object o; none if the value is no object and no proxy. If f
--- has an opposite, the values at both ends of a link give the same link.
+-- the link or the proxy for the value at the index i under the feature f of the object o; none if the value is no object and no proxy. If
+-- the document has a link at both of its ends, the values at the two ends give the same link.
 abbrev pub link_of : Metamodel → ℕ → Doc → ObjectNo → FeatureNo → ℕ × Value → Option Link
 link_of m n doc o f (i, value.Object b) = Some (link_to m n doc o f i b (shape m f).opposite)
 link_of m n doc o f (i, value.Proxy t) = Some (record { end = object_end n o f; index = i; far = Proxy t; container = None })

@@ -19,7 +19,7 @@ lower_of a g = if is_some a.containing then None else option_and_then (if_below 
 abbrev pub is_lower : Shape → FeatureNo → Bool
 is_lower a f = not (is_some a.containing) && option_map_or (is_below f) a.opposite false
 
--- whether a feature is a reference, but not the higher feature of a pair. If it is, the values that a document has under this feature are
--- put by edits that name the ends of this feature, and not the ends of its opposite
+-- whether a feature is a reference, but not the higher feature of a pair. If so, the values that a document has under this feature are put
+-- by edits that name the ends of this feature, and not the ends of its opposite
 abbrev pub is_near : Shape → FeatureNo → Bool
 is_near a f = a.is_reference && not (is_some (lower_of a f))

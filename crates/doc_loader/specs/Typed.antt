@@ -20,15 +20,15 @@ use Rattle.resource_docs.specs.declared.doc.DocObject.{DocObject}
 abbrev pub class_in : Doc → ObjectNo → Option ClassNo
 class_in doc o = option_map (λ x. x.class) (slice_get doc.objects o.0)
 
--- a feature accepts a value: an object whose class conforms to the feature's target, a proxy if the feature may have proxies, or a legal
--- value of an attribute
+-- the feature f accepts the value: an object whose class conforms to the target of f, a proxy if f may have proxies, or a legal value of an
+-- attribute
 abbrev pub IsTypedValue : Metamodel → Doc → FeatureNo → Value → Type 0
 IsTypedValue m doc f (value.Object b) = lookups.takes m (class_in doc) f (value.Object b) ≡ true
 IsTypedValue m doc f (value.Proxy t) = takes_proxies (shape m f) ≡ true
 IsTypedValue m doc f v = is_legal_value m f v ≡ true
 
--- a content of an object of a class: the class has the feature; there is at least one value, and no more values than the upper bound
--- allows; the feature accepts each value; and if the feature is unique, no value is there twice
+-- the content c agrees with the class of its object: the class has the feature; there is at least one value, and there are no more values
+-- than the upper bound and LIST_VALUES allow; the feature accepts each value; and if the feature is unique, no value is there twice
 pub record IsTypedContent (m : Metamodel) (doc : Doc) (class : ClassNo) (c : Content) : Type 0 where
   pub has : lookups.has_feature m class c.feature ≡ true
   pub takes : All (IsTypedValue m doc c.feature) c.values

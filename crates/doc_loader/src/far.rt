@@ -1,6 +1,6 @@
-//! The edits for the higher features of pairs of opposites: they bring the objects under these features into the order of the document. The
-//! proxies under these features are put later, by the edits of the module `proxies`. Two features are a pair if they are opposites and
-//! neither is a containment. The feature with the higher number is the higher feature of the pair.
+//! The edits for the higher features of pairs of opposites: they bring the objects under each of these features into the order in which the
+//! document lists them there. The proxies under these features are put later, by the edits of the module `proxies`. Two features are a pair
+//! if they are opposites and neither is a containment. The feature with the higher number is the higher feature of the pair.
 ghost use Rattle.std.specs.Prelude.{◌≡◌, ◌≤◌, ◌+◌, ◌++◌, ℕ, OnOk, flat_map, length, unwrap_or};
 ghost use Rattle.std.specs.List.{All, enumerate_from, list_any};
 ghost use Rattle.mm_types.specs.declared.limits.TheConstants.{OBJECTS};
@@ -20,8 +20,8 @@ use models::ReferenceKey;
 use resource_docs::{Content, Doc, DocObject};
 use std::alloc::{AllocError, Global};
 
-/// The data from which the edits are made: the metamodel, the number that the document's first object gets, and the index of each object in
-/// the document's lists.
+/// The data from which the edits are made: the metamodel, the number that the document's first object gets, and the indexes of the objects
+/// in the document's lists under the lower features of pairs.
 #[derive(Clone, Copy)]
 struct LoadContext<'r> {
     meta: &'r Meta,
@@ -45,7 +45,8 @@ fn is_ascending(values: &[Value]) -> bool
     true
 }
 
-/// Whether the feature of a content is the higher feature of a pair, and the objects of the content are not in the order of their numbers.
+/// Whether the feature of a content is the higher feature of a pair, and the objects of the content are not in the order of their numbers
+/// (`is_ascending`).
 fn is_unordered(meta: &Meta, content: &Content) -> bool
     ensures { result ≡ e.is_unordered meta.now content.now }
 {
@@ -88,9 +89,9 @@ pub(crate) fn has_higher(meta: &Meta, objects: &[DocObject]) -> bool
         .any(|object| has_any_higher(meta, object.contents.as_slice()))
 }
 
-/// Adds the edits that bring the objects under the higher features of pairs into the order of the document. The edits of `Pass::Near` put
-/// the objects under these features in the order of their numbers. So if the lists of the document are in this order already, no edit is
-/// added, and no memory is taken.
+/// Adds the edits that bring the objects under the higher features of pairs into the order in which the document lists them. The edits of
+/// `Pass::Near`, which come before, put the objects under these features in the order of their numbers. So if the document lists the
+/// objects under each of these features in the order of their numbers too, no edit is added, and no memory is taken.
 pub(crate) fn push_in_order(
     alloc: Global,
     meta: &Meta,
@@ -114,8 +115,8 @@ pub(crate) fn push_in_order(
     push_objects(&source, objects, edits)
 }
 
-/// For each object of the document, adds the edits that bring the objects under the higher features of pairs into the order of the
-/// document. The number of an object in the document is its index in `objects`.
+/// Adds the edits of `push_content` for all contents of all objects of the document. The number of an object in the document is its index
+/// in `objects`.
 fn push_objects(
     source: &LoadContext,
     objects: &[DocObject],
@@ -132,7 +133,7 @@ fn push_objects(
     Ok(())
 }
 
-/// For one object, adds the edits that bring the objects under the higher features of pairs into the order of the document.
+/// Adds the edits of `push_content` for all contents of one object.
 fn push_object(
     source: &LoadContext,
     object: ObjectNo,
@@ -149,8 +150,9 @@ fn push_object(
     Ok(())
 }
 
-/// If `content.feature` is the higher feature of a pair, and the objects among `content.values` are not in the order of their numbers, adds
-/// the edits that bring these objects into the order of the document.
+/// Adds the edits that bring the objects that `object` has under `content.feature` into the order of `content.values`. Adds none if
+/// `content.feature` is not the higher feature of a pair, or if the objects among `content.values` are in the order of their numbers
+/// (`is_ascending`).
 fn push_content(
     source: &LoadContext,
     object: ObjectNo,
@@ -171,8 +173,9 @@ fn push_content(
     push_values(source, object, lower, values, edits)
 }
 
-/// Adds edits for each object b among `values`: they cut the link between b and `object`, and put this link again, at the index that
-/// `object` has in the list of b under `lower`.
+/// For each object b among `values`, adds the edits that cut the link from b to `object` under `lower`, and put this link again. In the
+/// list of b under `lower`, `object` gets the index that it has in the document's list, or 0 if that list lacks it. In the list of `object`
+/// under the higher feature, b becomes the last value.
 fn push_values(
     source: &LoadContext,
     object: ObjectNo,
@@ -190,8 +193,8 @@ fn push_values(
     Ok(())
 }
 
-/// If `value` is an object, adds the edits that cut the link between `value` and `object`, and put this link again, at the index that
-/// `object` has in the list of `value` under `lower`.
+/// If `value` is an object, adds the edits that cut the link from `value` to `object` under `lower`, and put this link again, at the
+/// positions that `push_values` names.
 fn push_again(
     source: &LoadContext,
     object: ObjectNo,

@@ -1,4 +1,5 @@
-//! The indexes of objects in the lists of a document. Only the lists of the lower features of pairs (`specs/LoadEdits.antt`) are needed.
+//! The indexes of objects in the lists that a document has under the lower features of pairs (`specs/LoadEdits.antt`). The edits of the
+//! module `far` need no other indexes.
 ghost use Rattle.std.specs.Prelude.{◌≡◌};
 
 use crate::pairs::is_lower;
@@ -9,7 +10,8 @@ use models::ReferenceKey;
 use resource_docs::{Content, DocObject};
 use std::alloc::{AllocError, Global};
 
-/// The indexes of objects in the lists that a document has under the lower features of pairs.
+/// The indexes of objects in the lists that a document has under the lower features of pairs. The key of an index is made of the number of
+/// the object that has the list, the number of the list's feature, and the number of the object that is in the list.
 #[derive(Drop)]
 pub(crate) struct ListIndexes {
     indexes: IndexMap<ReferenceKey, u32>,
@@ -35,7 +37,7 @@ impl ListIndexes {
     }
 
     /// The indexes of the objects in the lists that a document has under the lower features of pairs; `objects` are all objects of the
-    /// document. Fails only if memory is refused.
+    /// document. If an object is in a list twice, the last index counts. Fails only if memory is refused.
     pub fn of(alloc: Global, meta: &Meta, objects: &[DocObject]) -> Result<Self, AllocError>
         requires room { length objects.now ≤ OBJECTS }
         requires short { All IsShortObject objects.now }

@@ -21,8 +21,9 @@ pub fn a_document_that_is_read_fits()
     ensures { (m : Metamodel) (uri : List ℕ) (doc : Doc) (n : ℕ) → IsRead m uri doc → n + length doc.objects ≤ OBJECTS → IsFitting n doc }
 {}
 
-/// A document that was read agrees with its metamodel: each object is of a concrete class, and the class has the features under which the
-/// object has contents; each value is of its feature's type; no feature has too many values, and no unique feature has a value twice.
+/// A document that was read agrees with its metamodel (`IsTyped`): each object is of a concrete class, and the class has the features under
+/// which the object has contents; each value is of its feature's type; no feature has too many values, and no unique feature has a value
+/// twice.
 pub fn a_document_that_is_read_is_typed()
     ensures { (m : Metamodel) (uri : List ℕ) (doc : Doc) → IsOfDocument m → IsRead m uri doc → IsTyped m doc }
 {}
@@ -34,8 +35,9 @@ pub fn the_edits_of_a_document_are_of_kind()
 {}
 
 /// Suppose that a document was read, that its first object gets the number n, and that all its objects get numbers below OBJECTS. Suppose
-/// also that the set of links is legal and without cycles, that no link names the number n or a higher number of an object, and that the
-/// resource is empty. Then the edits of the document fit, put no node below itself, and make exactly the links of the document.
+/// also that the set of links is legal, agrees with the metamodel and has no cycle, that no object with the number n or a higher number has
+/// a link, and that the resource is empty. Then the edits of the document fit, put no node below itself, and make exactly the links of the
+/// document.
 pub fn the_edits_of_a_document_make_its_links()
     ensures { (m : Metamodel) (uri : List ℕ) (doc : Doc) (n : ℕ) (k : ResourceNo) (s : Links) → IsOfDocument m → IsRead m uri doc → n + length doc.objects ≤ OBJECTS → IsLegalSet s → AreOfKind (kinds_of m) s → HasNoCycle s → IsRoomFor m n k s → MakesLinks m n k doc s }
 {}

@@ -1,6 +1,6 @@
-//! Loading: the edits that make the objects of a document, the values of these objects, and the links of the document.
+//! Loading: the edits that make the objects of a document, the values of their attributes, and the links and proxies of the document.
 //!
-//! `specs/Loading.antt` says what loading a document makes, `specs/LoadEdits.antt` in which order its links are put.
+//! `specs/Loading.antt` says what loading a document makes, and `specs/LoadEdits.antt` in which order the links and proxies are put.
 #![tactic(auto)]
 
 mod far;

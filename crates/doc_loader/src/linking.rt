@@ -15,8 +15,8 @@ use models::contents_end;
 use resource_docs::Doc;
 use std::alloc::{AllocError, Global};
 
-/// The edits that put the roots of a document into a resource, and put the links and proxies of the document. The objects of the document
-/// have to exist when these edits are applied; the first object gets the number `next`. Fails only if memory is refused.
+/// The edits that put the roots of a document into a resource, and put the links and proxies of the document. When these edits are applied,
+/// the objects of the document have to exist; the first of them has the number `next`. Fails only if memory is refused.
 pub fn link_edits(
     alloc: Global,
     meta: &Meta,

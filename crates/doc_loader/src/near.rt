@@ -1,5 +1,5 @@
-//! The edits for references that are not the higher feature of a pair of opposites. Each edit puts one value, and names the end that has
-//! this value.
+//! The edits for references that are not the higher feature of a pair of opposites (`specs/LoadEdits.antt`). Each edit puts one value, and
+//! names the end at which the document has this value.
 ghost use Rattle.std.specs.Prelude.{◌≡◌, ◌≤◌, ◌++◌, OnOk, flat_map, length};
 ghost use Rattle.std.specs.List.{All, enumerate_from};
 ghost use Rattle.mm_types.specs.declared.limits.TheConstants.{LIST_VALUES};
@@ -26,7 +26,7 @@ pub(crate) fn put_at(meta: &Meta, next: usize, end: End, index: u32, object: Obj
     })
 }
 
-/// Adds the edits that put values into an end, in the order of `values`.
+/// Adds the edits that put the objects and proxies among `values` into an end, each at its index in `values`.
 pub(crate) fn push_values(
     meta: &Meta,
     next: usize,

@@ -5,8 +5,8 @@ ghost use Rattle.doc_loader.specs.Loading as l;
 
 use mm_types::{End, FeatureNo, Node, ObjectNo};
 
-/// The number that an object gets, if its number in the document is `object`, and the first object of the document gets `next`. Takes no
-/// memory.
+/// The number that an object of a document gets. `object` is its number in the document, and the first object of the document gets `next`.
+/// Takes no memory.
 pub fn loaded(next: usize, object: ObjectNo) -> ObjectNo
     requires fits { IsNumbered next object }
     ensures { result ≡ l.loaded_number next object }

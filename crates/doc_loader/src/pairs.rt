@@ -31,8 +31,8 @@ pub(crate) fn is_lower(meta: &Meta, feature: FeatureNo) -> bool
     }
 }
 
-/// Whether a feature is a reference, but not the higher feature of a pair. If it is, the values that a document has under this feature are
-/// put by edits that name the ends of this feature, and not the ends of its opposite. Takes no memory.
+/// Whether a feature is a reference, but not the higher feature of a pair. If so, the values that a document has under this feature are put
+/// by edits that name the ends of this feature, and not the ends of its opposite. Takes no memory.
 pub(crate) fn is_near(meta: &Meta, feature: FeatureNo) -> bool
     ensures { result ≡ p.is_near (shape meta.now feature) feature }
 {

@@ -1,4 +1,4 @@
-//! The two passes over all contents of a document. Each pass goes through the objects in the order of the document.
+//! The two passes over all contents of a document. Each pass goes through the objects in the order of their numbers in the document.
 ghost use Rattle.std.specs.Prelude.{◌≡◌, ◌≤◌, ◌+◌, ◌++◌, OnOk, flat_map, length};
 ghost use Rattle.std.specs.List.{All, enumerate_from};
 ghost use Rattle.mm_types.specs.declared.limits.TheConstants.{OBJECTS};

@@ -1,5 +1,5 @@
 //! The edits that make a document's objects and set their attributes.
-ghost use Rattle.std.specs.Prelude.{◌≡◌, ◌≤◌, ◌+◌, ◌++◌, IfOk, OnOk, flat_map, length, map, option_to_list};
+ghost use Rattle.std.specs.Prelude.{◌≡◌, ◌≤◌, ◌+◌, ◌++◌, IfOk, OnOk, flat_map, length, map};
 ghost use Rattle.std.specs.List.{enumerate_from};
 ghost use Rattle.mm_types.specs.declared.limits.TheConstants.{OBJECTS};
 ghost use Rattle.mm_values.specs.declared.value_edit.ValueEdit.TheVariants.{NewObject};
@@ -8,9 +8,9 @@ ghost use Rattle.doc_loader.specs.Loading as l;
 
 use crate::numbers::loaded;
 use mm_meta::Meta;
-use mm_types::ObjectNo;
-use mm_values::{NewValues, ValueEdit};
-use resource_docs::{Content, ContentParts, Contents, Doc, DocObject, DocValues};
+use mm_types::{Few, FewItems, ObjectNo};
+use mm_values::ValueEdit;
+use resource_docs::{Content, Doc, DocObject};
 use std::alloc::{AllocError, Global};
 
 /// The edits that make the objects of a document, and give each object the values of its attributes. The first object gets the number
@@ -31,7 +31,8 @@ pub fn value_edits(
     Ok(edits)
 }
 
-/// The greatest number of edits that objects can take: one for each object, and one for each of its contents. The sum saturates.
+/// The greatest number of edits that `value_edits` can make for `objects`: one for each object, and one for each of its contents. The sum
+/// saturates.
 fn capacity_for(objects: &[DocObject]) -> usize {
     let mut count = objects.len();
     'objects: for object in objects {
@@ -74,35 +75,15 @@ fn push_object(
     meta: &Meta,
     next: usize,
     object: ObjectNo,
-    contents: Contents,
+    contents: Few<Content>,
     edits: &mut Vec<ValueEdit>,
 ) -> Result<(), AllocError>
     requires fits { IsNumbered next object }
     ensures { OnOk result (edits.new.items ≡ edits.old.items ++ flat_map (l.attribute_edits meta.now next object) contents) }
 {
-    match contents.into_parts() {
-        ContentParts::Few(first, second) => {
-            push_some(meta, next, object, first, edits)?;
-            push_some(meta, next, object, second, edits)
-        }
-        ContentParts::Many(contents) => push_many(meta, next, object, contents, edits),
-    }
-}
-
-/// If there is a content, and its feature is an attribute, adds the edit that puts its values.
-fn push_some(
-    meta: &Meta,
-    next: usize,
-    object: ObjectNo,
-    content: Option<Content>,
-    edits: &mut Vec<ValueEdit>,
-) -> Result<(), AllocError>
-    requires fits { IsNumbered next object }
-    ensures { OnOk result (edits.new.items ≡ edits.old.items ++ flat_map (l.attribute_edits meta.now next object) (option_to_list content)) }
-{
-    match content {
-        Some(content) => push_list(meta, next, object, content, edits),
-        None => Ok(()),
+    match contents.into_items() {
+        FewItems::One(content) => push_list(meta, next, object, content, edits),
+        FewItems::Many(contents) => push_many(meta, next, object, contents, edits),
     }
 }
 
@@ -123,16 +104,6 @@ fn push_many(
     Ok(())
 }
 
-/// Values of a document, in the type in which an edit has them. Takes no memory.
-fn new_values(alloc: Global, values: DocValues) -> NewValues
-    ensures { result ≡ values }
-{
-    match values.into_one(alloc) {
-        Ok(value) => NewValues::one(value),
-        Err(values) => NewValues::from_seq(values),
-    }
-}
-
 /// Adds the edit that puts the values of a content of an object, if the feature of the content is an attribute.
 fn push_list(
     meta: &Meta,
@@ -146,11 +117,10 @@ fn push_list(
 {
     let Content { feature, values } = content;
     if !meta.is_reference(feature) {
-        let list = new_values(*edits.allocator(), values);
         edits.push(ValueEdit::PutList {
             object: loaded(next, object),
             feature,
-            list,
+            list: values,
             flag: meta.is_unsettable(feature) && meta.is_single(feature),
         })?;
     }

@@ -1,6 +1,6 @@
 -- Lists of JSON values, and tests of mapped lists.
-use Rattle.std.proofs.Common.{◌≡◌, ◌∙◌, Bool, List, [], ◌∷◌, Option, Some, None, ℕ, ap, map, refl, sym}
-use Rattle.std.specs.Prelude.{◌&&◌, ◌||◌, false, option_map, unwrap_or}
+use Rattle.std.proofs.Common.{◌≡◌, ◌∙◌, Bool, List, [], ◌∷◌, Option, Some, None, ap, map, refl}
+use Rattle.std.specs.Prelude.{◌&&◌, ◌||◌, false, unwrap_or}
 use Rattle.std.specs.List.{cons_option, filter_map, list_all, list_any}
 use Rattle.std.specs.Option.{option_map_or}
 use Rattle.serde_json.specs.Data.{Data, Members}
@@ -9,7 +9,7 @@ use Rattle.mm_types.specs.Lookups as lookups
 use Rattle.mm_types.specs.Resolved.{Metamodel}
 use Rattle.mm_types.specs.declared.numbers.ClassNo.{ClassNo}
 use Rattle.mm_types.specs.declared.numbers.FeatureNo.{FeatureNo}
-use Rattle.doc_parts.specs.Parts.{Entry, content_at, entries_in, entry_at, list_of, new_entry}
+use Rattle.doc_parts.specs.Parts.{entries_in, entry_at, list_of}
 
 pub list_of-items_of : (ds : List Data) → list_of (items_of ds) ≡ ds
 list_of-items_of [] = refl
@@ -26,10 +26,6 @@ list_any-map f p (x ∷ xs) = ap (λ b. p (f x) || b) (list_any-map f p xs)
 any_at : {Y : Type 0} (p : Y → Bool) (o : Option Y) (ys : List Y) → list_any p (cons_option o ys) ≡ option_map_or p o false || list_any p ys
 any_at p None ys = refl
 any_at p (Some y) ys = refl
-
-pub list_any-filter_map : {X Y : Type 0} (h : X → Option Y) (p : Y → Bool) (xs : List X) → list_any p (filter_map h xs) ≡ list_any (λ x. option_map_or p (h x) false) xs
-list_any-filter_map h p [] = refl
-list_any-filter_map h p (x ∷ xs) = any_at p (h x) (filter_map h xs) ∙ ap (λ b. option_map_or p (h x) false || b) (list_any-filter_map h p xs)
 
 ---------------------------------------------------------------- what is written under the features of a class
 

@@ -1,5 +1,5 @@
 -- A key has the number of the first part of its path, and keeps it while more parts are found.
-use Rattle.std.proofs.Common.{◌≡◌, ◌∙◌, ◌++◌, Bool, true, false, List, [], ◌∷◌, Option, Some, None, ℕ, ap, cond, refl, sym}
+use Rattle.std.proofs.Common.{◌≡◌, ◌∙◌, Bool, true, false, List, [], ◌∷◌, Option, Some, None, ℕ, ap, cond, refl, sym}
 use Rattle.std.specs.Prelude.{◌&&◌, nat_eq}
 use Rattle.std.specs.Map.{lookup}
 use Rattle.std.specs.Option.{option_or}
@@ -45,10 +45,6 @@ lookup_congr p q same (e ∷ es) = ap (λ b. cond b (Some e.1) (lookup p es)) (s
 behind : {V : Type 0} (b c : Bool) (v w : V) (o : Option V) → option_or (cond b (Some v) o) (cond c (Some w) None) ≡ cond b (Some v) (option_or o (cond c (Some w) None))
 behind true c v w o = refl
 behind false c v w o = refl
-
-pub lookup_push : {K V : Type 0} (p : K → Bool) (es : List (K × V)) (k : K) (v : V) → lookup p (es ++ (k, v) ∷ []) ≡ option_or (lookup p es) (cond (p k) (Some v) None)
-lookup_push p [] k v = refl
-lookup_push p (e ∷ es) k v = ap (λ o. cond (p e.0) (Some e.1) o) (lookup_push p es k v) ∙ sym (behind (p e.0) (p k) e.1 v (lookup p es))
 
 -- a key that is equal to one with a value has that value
 pub found_by_equal : {V : Type 0} (es : List (PartKey × V)) (p q : PartKey) (v : V) → lookup (ghosts.eq p) es ≡ Some v → ghosts.eq p q ≡ true → lookup (is_at (key_of q)) es ≡ Some v

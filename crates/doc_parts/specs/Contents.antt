@@ -1,4 +1,4 @@
--- Whether the content of a feature is of the feature's type, and which values the content of an attribute gives.
+-- Whether the content of a feature is of the feature's type, and which value JSON data gives an attribute.
 use Rattle.std.specs.Prelude.{ℕ, ◌&&◌, ◌||◌, Bool, true, false, List, length, nat_le, Option, None, is_some, option_map, if◌then◌else◌}
 use Rattle.std.specs.List.{list_all}
 use Rattle.std.specs.Option.{option_map_or, option_or}
@@ -29,7 +29,8 @@ abbrev pub text_value : Bool → Data → Option Value
 text_value single d =
     option_or (if single then option_map (λ x. value.Null) (as_null d) else None) (option_map value.Text (as_str d such_that is_short))
 
--- the value that JSON data gives an attribute of a data type; `single` says whether the attribute is single
+-- the value that JSON data gives an attribute of a data type; none if the data gives no value of that type. `single` says whether the
+-- attribute is single
 abbrev pub attribute_value : Metamodel → Bool → DataType → Data → Option Value
 attribute_value m single EString d = text_value single d
 attribute_value m single EInt d = option_map value.Int (whole_number d)
@@ -42,8 +43,8 @@ attribute_value m single (Enum e) d = option_map value.Literal (as_str d >>= loo
 abbrev pub conforms_to : Metamodel → ClassNo → Data → Bool
 conforms_to m target d = option_map_or (λ c. lookups.conforms m c target) (class_of m d) false
 
--- whether data may be a part under a containment: it is a JSON object, and if it has the layout of an object and names a class of the
--- metamodel, this class conforms to the target
+-- whether data may be a part under a containment: the data is a JSON object, and its class conforms to the target. A JSON object that lacks
+-- the layout of an object, or names no class of the metamodel, is accepted here, since it has a fault of its own (`Faults`)
 abbrev pub may_stand : Metamodel → ClassNo → Data → Bool
 may_stand m target d = is_some (as_object d) && option_map_or (λ c. lookups.conforms m c target) (class_of m d) true
 

@@ -1,4 +1,4 @@
--- The parts that were found: their levels, their JSON data, their classes and members, and the first part of each path.
+-- The parts that were found: their levels, their JSON data, their classes and members, and their numbers (`Keys`).
 use Rattle.std.specs.Prelude.{◌≡◌, ◌≤◌, ◌&&◌, ◌++◌, ℕ, suc, Bool, false, not, List, [], Option, Some, None, is_some, length, map, option_map, if◌then◌else◌}
 use Rattle.std.specs.List.{enumerate_from, list_all}
 use Rattle.std.specs.Option.{option_map_or}
@@ -25,8 +25,8 @@ pub record Finds (t : Numbers) (ps : List Part) : Type 0 where
   pub ways : (q : Path) → way_of (number_at t) q ≡ number_of ps q
   pub below : (n : ℕ) (w : List ℕ) (i : Option ℕ) → length ps ≤ n → number_at t (UnderKey n w i) ≡ None
 
--- the key belongs to the path: the key of a root belongs to the path of that root, and a key under part n belongs to the path of part n
--- with one more step
+-- the key belongs to the path: the key of a root belongs to the path of that root; a key under the part with the number n belongs to the
+-- path of that part with the step of the key added
 abbrev pub IsPlaced : List Part → Key → Path → Type 0
 IsPlaced ps (RootKey i) path = path ≡ new_path i []
 IsPlaced ps (UnderKey n w i) path = (above : Path) × (number_of ps above ≡ Some n) × (path ≡ with_step above (new_step w i))
@@ -37,7 +37,7 @@ pub record Seen : Type 0 where
   pub known : Option (ClassNo × Members)
   pub number : Option ℕ
 
--- the part p as a search records it; its number is the number of the first part of ps that has the same path as p
+-- the part p as a search records it; its number is the index of the first part of ps that has the same path as p
 abbrev pub seen_part : Metamodel → List Part → Part → Seen
 seen_part m ps p = record { level = level_of p; json = p.json; known = class_and_members m p.json; number = number_of ps p.path }
 
@@ -50,7 +50,7 @@ part_seen r =
       number = Some r.number;
     }
 
--- the found parts f are the parts ps, as a metamodel reads them
+-- f has exactly the parts ps, in the same order and with their classes in the metamodel m, and finds their numbers by their keys
 pub record Knows (m : Metamodel) (f : FoundParts) (ps : List Part) : Type 0 where
   pub parts : map part_seen f.parts.items ≡ map (seen_part m ps) ps
   pub finds : Finds f.numbers ps
@@ -93,6 +93,6 @@ abbrev pub Walks : Metamodel → ℕ → FoundParts → FoundParts → Key → �
 Walks m n old new k level d =
     (ps : List Part) (p : Part) → Knows m old ps → IsPlaced ps k p.path → level ≡ level_of p → d ≡ p.json → Knows m new (ps ++ parts_from m n p)
 
--- the parts of the roots of a document; ds are the data of the roots, in order
+-- the roots of a document as parts; ds are the data of the roots, in order
 abbrev pub roots_from : List Data → List Part
 roots_from ds = map (λ v. record { path = new_path v.0 []; json = v.1 }) (enumerate_from 0 ds)

@@ -1,4 +1,4 @@
--- Numbers of parts by their keys: a part has the number of the first part that has the same path.
+-- Numbers of parts by their keys. The number of a part is the index, in loading order, of the first part that has the same path.
 use Rattle.std.specs.Prelude.{ℕ, ◌&&◌, Bool, false, List, [], ◌∷◌, Option, nat_eq, option_and_then, reverse}
 use Rattle.std.specs.Map.{lookup}
 use Rattle.std.specs.Str.{bytes_eq}
@@ -9,8 +9,8 @@ use Rattle.doc_parts.specs.declared.found.PartKey.{PartKey}
 use Rattle.doc_parts.specs.declared.found.PartKey.TheVariants.{Root, Under}
 use Rattle.doc_parts.specs.declared.found.Numbers.{Numbers}
 
--- the key of a part: for a root, the root's position; for any other part p, the number of the part above p, and the step from that part to
--- p
+-- the key of a part: for a root, the root's position; for any other part p, the number of the part directly above p, and the step from that
+-- part to p
 pub data Key : Type 0 where
   RootKey : ℕ → Key
   UnderKey : ℕ → List ℕ → Option ℕ → Key

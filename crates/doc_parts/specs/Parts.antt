@@ -22,7 +22,7 @@ list_of (item d ds) = d ∷ list_of ds
 
 ---------------------------------------------------------------- under an object
 
--- the class that an object names
+-- the class that an object names; none if the data lacks the layout of an object, or if no class has the name
 abbrev pub class_of : Metamodel → Data → Option ClassNo
 class_of m d = written_object d >>= (λ w. lookups.class_by_name m w.class)
 
@@ -44,15 +44,17 @@ entry_at m ms f = option_map (new_entry f) (content_at m ms f)
 abbrev pub entries_in : Metamodel → ClassNo → Members → List Entry
 entries_in m c ms = filter_map (entry_at m ms) (unwrap_or (lookups.features m c) [])
 
--- the class of an object and the members under its key `features`; none if the data is no object of a document, or no class has the name
+-- the class of an object and the members under its key `features`; none if the data lacks the layout of an object, or if no class has the
+-- name that the object gives
 abbrev pub class_and_members : Metamodel → Data → Option (ClassNo × Members)
 class_and_members m d = written_object d >>= (λ w. option_map (λ c. (c, w.features)) (lookups.class_by_name m w.class))
 
--- the contents of an object, in the order of all features of its class; none if its class is unknown
+-- the contents of an object, in the order of all features of its class; no contents if the data lacks the layout of an object, or if the
+-- object's class is unknown
 abbrev pub entries : Metamodel → Data → List Entry
 entries m d = option_map_or (λ k. entries_in m k.0 k.1) (class_and_members m d) []
 
--- the values of a content: for a single feature, the content itself; for a many-valued feature, the items of the array, and none if the
+-- the values of a content: for a single feature, the content itself; for a many-valued feature, the items of the array, or no values if the
 -- content is no array
 abbrev pub values_of : Metamodel → Entry → List Data
 values_of m e =
@@ -69,7 +71,7 @@ pub record Part : Type 0 where
 abbrev pub level_of : Part → ℕ
 level_of p = suc (length p.path.steps)
 
--- the step to the value of a feature at a position
+-- the step to the value at position i of the feature f; if f is single, the step has no index
 abbrev pub step_to : Metamodel → FeatureNo → ℕ → Step
 step_to m f i = new_step (lookups.feature_name m f) (if (shape m f).is_single then None else Some i)
 
@@ -93,6 +95,6 @@ root_parts d =
 unfoldable pub parts : Metamodel → Data → List Part
 parts m d = flat_map (parts_from m (depth d)) (root_parts d)
 
--- the number of the first part that has a path
+-- the number that each part with a given path has, which is the index of the first part with this path; none if no part has the path
 abbrev pub number_of : List Part → Path → Option ℕ
 number_of ps p = position (λ q. same_path p q.path) ps

@@ -69,7 +69,7 @@ fn is_text(is_single: bool, json: &Json) -> bool
     }
 }
 
-/// Whether `json` gives an attribute of a data type a value, by the rules of `attribute_value`. Takes no memory.
+/// Whether `json` is a value of an attribute of a data type, by the rules of `attribute_value`. Takes no memory.
 pub(crate) fn is_attribute_value(
     meta: &Meta,
     is_single: bool,

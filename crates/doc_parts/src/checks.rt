@@ -1,4 +1,4 @@
-//! The faults that a found part has by itself.
+//! Whether some found part has a fault that concerns this part alone.
 ghost use Rattle.std.specs.Prelude.{◌≡◌, List};
 ghost use Rattle.std.specs.List.{list_any};
 ghost use Rattle.mm_types.specs.Resolved.{Metamodel};

@@ -29,8 +29,9 @@ fn names_class(meta: &Meta, class: ClassNo, json: &Json) -> bool
     }
 }
 
-/// Whether a JSON value may be under a containment with the class `target`: it is a JSON object, and if it has the layout of an object and
-/// names a class of the metamodel, this class conforms to `target`. Most objects name `target` itself, so this class is tried first.
+/// Whether a JSON value may be under a containment whose target is the class `target`. The value must be a JSON object, and its class must
+/// conform to `target`. A JSON object that lacks the layout of an object, or names no class of the metamodel, is accepted here, since it
+/// has a fault of its own (`specs/Faults.antt`). Most objects name `target` itself, so this class is tried first.
 fn may_stand(meta: &Meta, target: ClassNo, json: &Json) -> bool
     ensures { result ≡ may_be meta.now target (view json.now) }
 {

@@ -11,16 +11,16 @@ use mm_meta::Meta;
 use mm_types::{ClassNo, FeatureNo};
 use std::slice;
 
-/// The class whose name an object has under `class`; `None` if the JSON value is no object of a document, or no class has that name. Takes
-/// no memory.
+/// The class whose name an object has under `class`; `None` if `json` lacks the layout of an object, or if no class has that name. Takes no
+/// memory.
 pub fn class_of(meta: &Meta, json: &Json) -> Option<ClassNo>
     ensures { result ≡ class_meant meta.now (view json.now) }
 {
     meta.class_by_name(written(json)?.class)
 }
 
-/// The class of an object and the members under its key `features`; `None` if the JSON value is no object of a document, or no class has
-/// the name that the value gives. Takes no memory.
+/// The class of an object and the members under its key `features`; `None` if `json` lacks the layout of an object, or if no class has the
+/// name that the object gives. Takes no memory.
 pub fn known<'t>(meta: &Meta, json: &Json<'t>) -> Option<(ClassNo, Members<'t>)>
     ensures { option_map (λ k. (k.0, members_view k.1.now)) result ≡ known_meant meta.now (view json.now) }
 {
@@ -29,8 +29,8 @@ pub fn known<'t>(meta: &Meta, json: &Json<'t>) -> Option<(ClassNo, Members<'t>)>
     Some((class, object.features))
 }
 
-/// The content of a feature among the members of an object; `None` if no member has the feature's name, or if the feature is a container
-/// reference. Takes no memory.
+/// The content of a feature among the members under the key `features` of an object; the last one, if several members have the feature's
+/// name. `None` if no member has the feature's name, or if the feature is a container reference. Takes no memory.
 pub fn content_at<'t>(meta: &Meta, members: Members<'t>, feature: FeatureNo) -> Option<&'t Json<'t>>
     ensures { option_map (λ v. view v.now) result ≡ content_meant meta.now (members_view members.now) feature }
 {

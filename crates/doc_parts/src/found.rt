@@ -7,8 +7,9 @@ use mm_types::ClassNo;
 use std::alloc::{AllocError, Global};
 use web_uris::{Path, Step};
 
-/// The key of a part. For a root, the key is the position of the root. For any other part p, the key has the number of the part above p,
-/// and the step from that part to p. A part has the number of the first part that has the same path.
+/// The key of a part. For a root, the key is the position of the root. For any other part p, the key has the number of the part directly
+/// above p, and the step from that part to p. The number of a part is the index, in loading order, of the first part that has the same
+/// path.
 #[derive(Clone, Copy, PartialEq, Eq, Hash)]
 pub enum PartKey<'m> {
     Root(u32),
@@ -19,7 +20,7 @@ pub enum PartKey<'m> {
     },
 }
 
-/// A position as a number of 32 bits, as keys have positions. Takes no memory; fails if the position does not fit in 32 bits.
+/// A position as a number of 32 bits, the type that positions have in keys. Takes no memory; fails if the position does not fit in 32 bits.
 pub fn index_of(position: usize) -> Result<u32, AllocError>
     ensures index { IfOk result (λ i. i ≡ position) }
     ensures refused { IfErr result (λ _. 2 ^ 32 ≤ position) }
@@ -36,7 +37,8 @@ pub struct Numbers<'m> {
     numbers: IndexMap<PartKey<'m>, u32>,
 }
 
-/// A part: its JSON value, its class and members if the class is known, its level, and the number of the first part that has the same path.
+/// A part: its JSON value, its class and the members under its key `features` if the class is known, its level, and its number, which is
+/// the index of the first part that has the same path.
 #[derive(Clone, Copy)]
 pub struct FoundPart<'t> {
     pub json: &'t Json<'t>,
@@ -48,7 +50,7 @@ pub struct FoundPart<'t> {
 impl<'t> FoundPart<'t> {
     ghost use Rattle.doc_parts.specs.FoundParts.{part_seen};
 
-    /// The class of the object, if it is known. Takes no memory.
+    /// The class of the part, if the class is known. Takes no memory.
     pub fn class(&self) -> Option<ClassNo>
         ensures { result ≡ option_map (λ k. k.0) (part_seen self.now).known }
     {
@@ -59,7 +61,7 @@ impl<'t> FoundPart<'t> {
     }
 }
 
-/// The parts that were found, in loading order.
+/// The parts that were found, in loading order, and the numbers of these parts by their keys.
 #[derive(Drop)]
 pub struct FoundParts<'t, 'm> {
     pub parts: Vec<FoundPart<'t>>,
@@ -134,7 +136,7 @@ impl<'m> Numbers<'m> {
         }
     }
 
-    /// Gives a key a number, and returns the number that the key had before.
+    /// Gives a key a number, and returns the number that the key had before; `None` if the key had no number.
     fn put(&mut self, key: PartKey<'m>, number: u32) -> Result<Option<u32>, AllocError>
         ensures number { OnOk result ((k : Key) → number_at self.new k ≡ (if is_at k key.entry then Some number else number_at self.old k)) }
         ensures had { IfOk result (λ o. o ≡ number_at self.old (key_of key.entry)) }
@@ -183,8 +185,8 @@ impl<'t, 'm> FoundParts<'t, 'm> {
         self.numbers.reserve(count)
     }
 
-    /// Adds a part, and returns the number of the first part that has the same path. Fails if memory is refused, or if there are 2^32 parts
-    /// already; then the parts may not be used any more.
+    /// Adds a part, and returns its number, which is the index of the first part that has the same path. Fails if memory is refused, or if
+    /// there are 2^32 parts already. After a failure the parts may not be used any more.
     pub fn add(
         &mut self,
         key: PartKey<'m>,

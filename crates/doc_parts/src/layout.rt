@@ -21,7 +21,7 @@ pub(crate) struct ObjectMembers<'t> {
     pub features: Members<'t>,
 }
 
-/// The top of a document; `None` if the value is not the top of a document. Takes no memory.
+/// The members of the top of a document; `None` if `json` lacks the layout of a top. Takes no memory.
 #[tactic(auto, unfolding(crate::specs::Layout::top))]
 pub fn top<'t>(json: &Json<'t>) -> Option<TopMembers<'t>>
     ensures { option_map (λ t. new_top t.format (items_view t.roots.now)) result ≡ top_meant (view json.now) }
@@ -70,7 +70,7 @@ fn of_two<'t>(class: &'t Json<'t>, features: &'t Json<'t>) -> Option<ObjectMembe
     Some(ObjectMembers { class, features })
 }
 
-/// The class and the features of an object that is written with these members; `None` if they are not the members of an object.
+/// The class and the features of an object that is written with `members`; `None` if `members` lack the layout of an object.
 #[tactic(auto, unfolding(crate::specs::Layout::written_object))]
 fn of_members<'t>(members: Members<'t>) -> Option<ObjectMembers<'t>>
     ensures { option_map (λ w. new_written w.class.now (members_view w.features.now)) result ≡ written_meant (object (members_view members.now)) }
@@ -83,7 +83,7 @@ fn of_members<'t>(members: Members<'t>) -> Option<ObjectMembers<'t>>
     Some(ObjectMembers { class, features })
 }
 
-/// The members of an object; `None` if the value is no object of a document. Takes no memory.
+/// The members of an object; `None` if `json` lacks the layout of an object. Takes no memory.
 #[inline(always)]
 #[tactic(auto, unfolding(crate::specs::Layout::written_object))]
 pub(crate) fn written<'t>(json: &Json<'t>) -> Option<ObjectMembers<'t>>

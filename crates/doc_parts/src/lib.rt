@@ -1,7 +1,7 @@
 //! The parts of a resource document: the JSON value of each object, with its path, and the contents of its features.
 //!
 //! `specs/Layout.antt` is the layout of a document, key by key. `specs/Parts.antt` says which parts are looked at, `specs/Contents.antt`
-//! whether the content of a feature is of the feature's type, and `specs/Faults.antt` the faults of an object by itself.
+//! whether the content of a feature is of the feature's type, and `specs/Faults.antt` which faults concern one object alone.
 #![tactic(auto)]
 
 mod attributes;

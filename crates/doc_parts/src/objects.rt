@@ -1,4 +1,4 @@
-//! The faults that an object of a document has by itself.
+//! The faults of an object of a document that concern this object alone.
 ghost use Rattle.std.specs.Prelude.{◌≡◌};
 ghost use Rattle.std.specs.List.{list_all};
 ghost use Rattle.borrowed_json.specs.View.{members_view};
@@ -22,7 +22,7 @@ pub(crate) fn has_no_class(meta: &Meta, part: &FoundPart) -> bool
     }
 }
 
-/// Whether a class has a feature of this name, and the feature is no container reference.
+/// Whether a class has a feature with the name `name`, and the feature is no container reference.
 fn is_readable(meta: &Meta, class: ClassNo, name: &str) -> bool
     ensures { result ≡ readable meta.now class name.now }
 {

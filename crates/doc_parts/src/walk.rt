@@ -19,7 +19,8 @@ struct Below {
     level: u32,
 }
 
-/// Finds the part at a key and the parts below this part, at most `levels` levels in all.
+/// Adds to `found` the part with the key `key`, the level `level` and the JSON value `json`, and the parts below this part, at most
+/// `levels` levels in all.
 #[cycle(walk)]
 pub(crate) fn walk<'t, 'm>(
     found: &mut FoundParts<'t, 'm>,
@@ -159,7 +160,7 @@ fn walk_roots<'t, 'm>(
 }
 
 /// Finds the roots of a document and the parts below them, at most `levels` levels in all. The parts are in loading order: each comes
-/// before the parts in it. Fails if memory is refused, or if a number, a position or a level does not fit 32 bits.
+/// before the parts in it. Fails if memory is refused, or if a number, a position or a level does not fit in 32 bits.
 pub fn find_parts<'t, 'm>(
     alloc: Global,
     meta: &'m Meta,

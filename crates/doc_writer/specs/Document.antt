@@ -50,7 +50,8 @@ plain_data m f (value.Literal i) = string (lookups.literal_text m f i)
 plain_data m f (value.Object o) = null
 plain_data m f (value.Proxy t) = string t
 
--- the JSON value of an object under a feature: the result of `part` if the feature is a containment, else the text of a reference
+-- the JSON value of an object that is a value of a feature: the result of `part` if the feature is a containment, else the text by which
+-- the resource k refers to the object
 abbrev pub object_under : Reading → ResourceNo → (ObjectNo → Data) → FeatureNo → ObjectNo → Data
 object_under r k part f o = if is_containment r.metamodel f then part o else string (reference_text r k o)
 
@@ -65,7 +66,7 @@ content_data r k part o f =
     if (shape_at r e).is_single then value_data r k part f (value_in (r.values e) 0)
     else array (items_of (map (value_data r k part f) (r.values e)))
 
--- the member of a feature: its name, and its content
+-- the member for a feature of an object: the name of the feature as the key, and the JSON value of the feature
 abbrev pub feature_member : Reading → ResourceNo → (ObjectNo → Data) → ObjectNo → FeatureNo → List ℕ × Data
 feature_member r k part o f = (lookups.feature_name r.metamodel f, content_data r k part o f)
 
@@ -74,7 +75,8 @@ feature_member r k part o f = (lookups.feature_name r.metamodel f, content_data 
 abbrev pub class_name : Reading → ObjectNo → List ℕ
 class_name r o = option_map_or (λ c. c.name) (option_and_then (lookups.class r.metamodel) (r.class o)) []
 
--- the JSON value of an object with all that the object contains, down to a number of levels; null for the objects below these levels
+-- the JSON value of an object with all that the object contains, down to a number of levels, of which the object itself is the first; each
+-- object directly below the last of these levels is null, and the object itself is null if the number is 0
 abbrev pub object_data : Reading → ResourceNo → ℕ → ObjectNo → Data
 object_data r k zero o = null
 object_data r k (suc n) o =

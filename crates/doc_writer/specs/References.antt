@@ -8,7 +8,8 @@ use Rattle.mm_types.specs.declared.numbers.FeatureNo.{FeatureNo}
 use Rattle.doc_writer.specs.Written.{is_writable}
 use Rattle.doc_writer.specs.declared.class_references.ClassReferences.{ClassReferences}
 
--- whether objects may refer to other objects by a feature: whether it is a reference, but neither a containment nor a container reference
+-- whether objects may refer to other objects by a feature: whether the feature is a reference, but neither a containment nor a container
+-- reference
 abbrev pub may_refer : Metamodel → FeatureNo → Bool
 may_refer m f = (shape m f).is_reference && (not (is_containment m f) && is_writable m f)
 

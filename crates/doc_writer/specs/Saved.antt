@@ -1,4 +1,4 @@
--- Why a resource can't be saved: the first condition that applies to any of its objects.
+-- Why a resource can't be saved: the first of two conditions that applies to at least one of its objects.
 use Rattle.std.specs.Prelude.{◌≡◌, ◌≤◌, ℕ, ◌&&◌, Bool, not, List, filter, nat_lt, Option, Some, None, is_some, Result, Ok, Err, MatchBool, true, false, String, string_bytes}
 use Rattle.std.specs.List.{list_any}
 use Rattle.std.specs.declared.alloc.Global.{Global}
@@ -46,7 +46,7 @@ save_refusal r k =
     Dangling where_so list_any (has_dangling r) (objects_in r k) else_by
     TooDeep where_so list_any (is_too_deep r) (objects_in r k)
 
--- if the document of a resource is not too deep for the reader of JSON, a text is read as that document
+-- a text is read as the document of a resource, if this document is not too deep for the reader of JSON
 abbrev pub IsReadAs : Reading → ResourceNo → List ℕ → Type 0
 IsReadAs r k text = depth (document r k) ≤ max_depth → read text ≡ Some (document r k)
 

@@ -1,5 +1,5 @@
--- Which parts of a resource are written: its objects in loading order, and of each object the features that are set and are no container
--- references.
+-- Which parts of a resource are written: its objects in loading order (the order in which a load of the document makes them), and of each
+-- object the features that are set and are no container references.
 use Rattle.std.specs.Prelude.{ℕ, ◌&&◌, Bool, not, List, filter, flat_map, length}
 use Rattle.mm_types.specs.Lookups as lookups
 use Rattle.mm_types.specs.Resolved.{Metamodel}
@@ -11,8 +11,9 @@ use Rattle.models.specs.Reading.{Reading, all_features_of, at_end, is_set}
 use Rattle.containment.specs.Forest.{subtree}
 use Rattle.fragment_paths.specs.Finding.{roots}
 
--- the objects of a resource, root by root; each object comes before the objects that it contains. The objects that one object contains are
--- in the order of all features of its class; under one feature they are in the order of their positions.
+-- the objects of a resource, root by root; each object is directly followed by all objects below it. The objects that an object contains
+-- come feature by feature, in the order of all features of the class of the container; under one feature they are in the order of their
+-- positions.
 abbrev pub objects_in : Reading → ResourceNo → List ObjectNo
 objects_in r k = flat_map (subtree r) (roots r k)
 

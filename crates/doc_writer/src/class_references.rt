@@ -6,15 +6,15 @@ use mm_meta::Meta;
 use mm_types::{ClassNo, FeatureNo};
 use std::alloc::{AllocError, Global};
 
-/// Whether objects may refer to other objects by a feature: whether it is a reference, but neither a containment nor a container reference.
-/// Takes no memory.
+/// Whether objects may refer to other objects by a feature: whether the feature is a reference, but neither a containment nor a container
+/// reference. Takes no memory.
 fn is_referring(meta: &Meta, feature: FeatureNo) -> bool
     ensures { result ≡ may_refer meta.now feature }
 {
     meta.is_reference(feature) && !meta.is_containment(feature) && !meta.is_container(feature)
 }
 
-/// Adds a feature, if objects may refer to other objects by it.
+/// Adds `feature` to `features`, if objects may refer to other objects by `feature`.
 fn push_referring(
     meta: &Meta,
     feature: FeatureNo,
@@ -42,8 +42,8 @@ fn push_all_referring(
     Ok(())
 }
 
-/// The features by which the objects of a class may refer to other objects. Objects that are asked for one after another mostly have the
-/// same class, so the list is made only if the class changes, and not for each object.
+/// The features by which the objects of a class may refer to other objects. A caller goes through objects, and successive objects mostly
+/// have the same class. So the list is made anew only for an object whose class differs from that of the object before it.
 #[derive(Drop)]
 pub(crate) struct ClassReferences {
     class: Option<ClassNo>,
@@ -65,7 +65,8 @@ impl ClassReferences {
     }
 
     /// If the list is not for `class` already, replaces it by the list for `class`: the features by which objects of `class` may refer to
-    /// others. Fails only if memory is refused. After a failure the list may lack some features, and must not be used any more.
+    /// other objects, or no features if `class` is `None`. Fails only if memory is refused. After a failure the list may lack some
+    /// features, and must not be used any more.
     #[inline(always)]
     pub fn turn_to(&mut self, meta: &Meta, class: Option<ClassNo>) -> Result<(), AllocError>
         requires { IsReferences meta.now self.old }

@@ -37,8 +37,8 @@ fn write_roots<L: LinkStore>(
     write_list(source, &order, roots, out)
 }
 
-/// Writes objects, with all objects below them, as an array. `order` has the features of some class, sorted by name, and is used for the
-/// objects of that class.
+/// Writes objects, with all objects below them, as an array. `order` has the features of some class, sorted by name, and is used for those
+/// of `roots` that have this class.
 fn write_list<L: LinkStore>(
     source: &WriteContext<L>,
     order: &ClassOrder,
@@ -79,7 +79,7 @@ fn write_document<L: LinkStore>(
     out.end_object()
 }
 
-/// The text that a writer has written; the writer began with no text.
+/// The text that the writer `out` has written. It is required that `out` began with no text.
 fn text_of(out: Writer) -> String
     requires alone { out.before ≡ [] }
     ensures text { string_bytes result ≡ print out.tokens }

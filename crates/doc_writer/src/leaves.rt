@@ -52,7 +52,8 @@ pub(crate) fn write_reference<L: LinkStore>(
     }
 }
 
-/// Writes a value that is no object. For an object it writes null; the callers write objects by other functions.
+/// Writes a value of `feature` that is no object. If the value is an object, null is written; but the callers write objects by other
+/// functions.
 pub(crate) fn write_plain(
     meta: &Meta,
     feature: FeatureNo,

@@ -9,7 +9,7 @@ use mm_types::limits::LEVELS;
 use mm_types::{Node, ObjectNo};
 use models::ModelRef;
 
-/// Whether an object is at a deeper level than a document may have. Takes no memory.
+/// Whether an object is at a deeper level than a document may have (`LEVELS`). Takes no memory.
 pub(crate) fn is_too_deep<L: LinkStore>(model: &ModelRef<L>, object: ObjectNo) -> bool
     ensures { result ≡ saved.is_too_deep (reading model.now) object }
 {

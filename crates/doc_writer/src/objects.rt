@@ -30,8 +30,8 @@ pub(crate) fn roots<L: LinkStore>(
     Ok(found)
 }
 
-/// Roots and all objects below them, root by root, each object before its contents (EMF: Resource.getAllContents). Fails only if memory is
-/// refused.
+/// The objects `roots` and all objects below them, root by root; each object is directly followed by all objects below it (EMF:
+/// Resource.getAllContents). Fails only if memory is refused.
 pub(crate) fn objects_below<L: LinkStore>(
     alloc: Global,
     model: &ModelRef<L>,

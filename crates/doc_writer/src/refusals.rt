@@ -12,9 +12,9 @@ use links::LinkStore;
 use mm_types::{ObjectNo, Refused};
 use std::alloc::{AllocError, Global};
 
-/// The first reason why a resource with these objects can't be saved: one of the objects refers to an object that is in no resource, or one
-/// of the objects is too deep. If there is no reason, the ways to all objects to which these objects refer are noted (`note_ways`). Fails
-/// only if memory is refused.
+/// The reason why a resource whose objects are `objects` can't be saved: `Dangling` if one of `objects` refers to an object that is in no
+/// resource, else `TooDeep` if one of `objects` is at a deeper level than a document may have, else `None`. If the result is `None`, the
+/// ways to all objects to which `objects` refer are noted (`note_ways`). Fails only if memory is refused.
 pub(crate) fn refusal<L: LinkStore>(
     alloc: Global,
     positions: &mut Positions<L>,

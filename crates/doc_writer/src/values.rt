@@ -1,4 +1,5 @@
-//! Writes objects and their values as JSON.
+//! Writes objects and their values as JSON. The parameter `levels` says how many levels of objects are written at most (`write_object`).
+//! The parameter `order` has the sorted features of some class, so that they need not be sorted for each object of that class.
 ghost use Rattle.std.specs.Prelude.{◌≡◌, OnOk, codes, map};
 ghost use Rattle.mm_types.specs.Ends.{value_in};
 ghost use Rattle.mm_types.specs.Lookups as lookups;
@@ -22,7 +23,7 @@ use mm_types::{ClassNo, End, FeatureNo, Node, ObjectNo, Value};
 use models::Found;
 use std::alloc::AllocError;
 
-/// Writes an object under a feature: the object itself if the feature is a containment, else a reference to it.
+/// Writes an object that is a value of `feature`: the object itself if `feature` is a containment, else a reference to the object.
 #[cycle(object)]
 fn write_under<L: LinkStore>(
     source: &WriteContext<L>,
@@ -84,7 +85,8 @@ fn write_item<L: LinkStore>(
     }
 }
 
-/// The class of the first object at an end, if the feature of the end is a containment and there is an object; else the class of `order`.
+/// The class of the first value of an end, if the feature of the end is a containment and the first value is an object; else the class of
+/// `order`.
 fn first_class<L: LinkStore>(
     source: &WriteContext<L>,
     order: &ClassOrder,
@@ -100,8 +102,9 @@ fn first_class<L: LinkStore>(
     }
 }
 
-/// Writes all values of an end as an array. All contained objects of the class of the first contained object share one order of features.
-/// This is `order` if `order` is for that class; otherwise the features of the class are sorted by name once.
+/// Writes all values of an end as an array. If the values are contained objects, one list of sorted features is used for all of them that
+/// have the class of the first. This list is `order` if `order` is for that class; otherwise the features of that class are sorted here,
+/// once.
 #[cycle(object)]
 fn write_items<L: LinkStore>(
     source: &WriteContext<L>,
@@ -121,7 +124,7 @@ fn write_items<L: LinkStore>(
     write_list(source, levels, &own, end, out)
 }
 
-/// Writes all values of an end as an array. `order` is used for the contained objects of its class.
+/// Writes all values of an end as an array. `order` is used for those contained objects that have the class of `order`.
 #[cycle(object)]
 fn write_list<L: LinkStore>(
     source: &WriteContext<L>,
@@ -140,7 +143,7 @@ fn write_list<L: LinkStore>(
     out.end_array()
 }
 
-/// Writes the values of a feature of an object: as an array if the feature is many-valued, else the one value.
+/// Writes the values of a feature of an object: as an array if the feature is many-valued, else the one value (null if there is none).
 #[cycle(object)]
 fn write_content<L: LinkStore>(
     source: &WriteContext<L>,
@@ -199,8 +202,8 @@ fn write_if_set<L: LinkStore>(
     write_feature(source, levels, order, object, feature, out)
 }
 
-/// Writes a JSON object whose members are those features of an object that are set, in the order of their names. `order` has the features
-/// of the object's class.
+/// Writes a JSON object whose members are those features of an object that are set and are no container references, in the order of their
+/// names. `order` has to be for the object's class.
 #[cycle(object)]
 fn write_features<L: LinkStore>(
     source: &WriteContext<L>,
@@ -234,7 +237,8 @@ fn write_class<L: LinkStore>(
     write_text(class_name(source.positions.model(), object), out)
 }
 
-/// Writes the member `features` of an object. If `order` is not of the object's class, the features of the object's class are sorted first.
+/// Writes the member `features` of an object. If `order` is not for the object's class, the features of the object's class are sorted
+/// first.
 #[cycle(object)]
 fn write_members<L: LinkStore>(
     source: &WriteContext<L>,
@@ -255,8 +259,9 @@ fn write_members<L: LinkStore>(
     write_features(source, levels, &own, object, out)
 }
 
-/// Writes an object with all that the object contains, down to `levels` levels, and null for the objects below these levels. Fails only if
-/// memory is refused; then a part of the text may be written.
+/// Writes an object with all that the object contains, down to `levels` levels, of which the object itself is the first. Writes null for
+/// each object directly below the last of these levels, and for the object itself if `levels` is 0. Fails only if memory is refused; then a
+/// part of the text may be written.
 #[cycle(object)]
 pub(crate) fn write_object<L: LinkStore>(
     source: &WriteContext<L>,

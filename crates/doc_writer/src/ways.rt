@@ -1,6 +1,7 @@
-//! Notes the ways to the objects to which a resource refers: the positions of these objects, and of the objects above them, in the ends
-//! that hold them (`Positions::note_way`). All positions of an end are noted together, so each of these ends is gone through once, and not
-//! once for each reference. The same functions find out whether the resource refers to objects that are in no resource.
+//! Notes the ways to the objects to which the objects of a resource refer. The way to an object consists of the positions that this object
+//! and all objects above it have in the ends that contain them (`Positions::note_way`). All positions of an end are noted together, so each
+//! end on these ways is gone through once, and not once for each reference. The functions that note the ways also find out whether an
+//! object of the resource refers to an object that is in no resource.
 ghost use Rattle.std.specs.Prelude.{◌≡◌, IfOk, OnOk, false, slice_get, true};
 ghost use Rattle.std.specs.List.{All, list_any};
 ghost use Rattle.std.specs.Option.{option_and_then, option_map_or};
@@ -90,8 +91,8 @@ fn note_feature<L: LinkStore>(
     note_end(positions, end)
 }
 
-/// Notes the ways to the objects to which an object refers by some features. Stops at the first of these targets that is in no resource,
-/// and returns whether there is such a target.
+/// Notes the ways to the objects to which an object refers by any of `features`. Stops at the first of these targets that is in no
+/// resource, and returns whether there is such a target.
 fn note_features<L: LinkStore>(
     positions: &mut Positions<L>,
     object: ObjectNo,
@@ -110,7 +111,7 @@ fn note_features<L: LinkStore>(
 }
 
 /// Notes the ways to the objects to which an object refers. Stops at the first of these targets that is in no resource, and returns whether
-/// there is such a target. If `by_class` has the features of a different class, they are replaced by those of the object's class.
+/// there is such a target. If `by_class` has the features of a different class, these features are replaced by those of the object's class.
 fn note_object<L: LinkStore>(
     positions: &mut Positions<L>,
     by_class: &mut ClassReferences,

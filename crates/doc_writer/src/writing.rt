@@ -56,12 +56,13 @@ fn written_below<L: LinkStore>(
 
 /// The text of a resource (EMF: XMLResource.save): `serde_json`'s compact text of its document. The features that are set are written,
 /// except container references. Under a containment, the contained objects are written themselves. Under any other reference, an object of
-/// the same resource is written as a fragment, and an object of another resource as URI, `#` and fragment. If that reference has an
-/// opposite, each of the two linked objects is written with its own end, in the document of its own resource. A resource that does not
-/// exist has no roots.
+/// the same resource is written as a fragment, an object of another resource as URI, `#` and fragment, and a proxy as its text. If that
+/// reference has an opposite, a link of two objects is written at both of its ends, each end in the document of the resource that has the
+/// object of this end. A resource that does not exist has no roots.
 ///
 /// The whole resource is checked before anything is written. Fails with `Dangling` if an object of the resource refers to an object that is
-/// in no resource; else with `TooDeep` if an object of the resource is at a deeper level than 40. Fails with `Memory` if memory is refused.
+/// in no resource; else with `TooDeep` if an object of the resource is at a deeper level than 40 (a root is at level 1). Fails with
+/// `Memory` if memory is refused.
 pub fn write_doc<L: LinkStore>(
     alloc: Global,
     model: &ModelRef<L>,

@@ -1,4 +1,4 @@
-//! Texts, values and words, and the texts that address objects.
+//! Texts, values and words, the texts that address objects, and refusals and faults as they are printed.
 mod fragments;
 mod joining;
 mod printed;

@@ -1,4 +1,4 @@
--- The answers of a dialogue, and what a crash leaves of it.
+-- The answers of a dialogue, and which lines of the dialogue a crash leaves in the file of the journal.
 use Rattle.std.specs.Prelude.{◌≡◌, ◌≤◌, ◌⊎◌, ◌-◌, ◌^◌, ℕ, true, nat_lt, List, [], ◌++◌, length, Option, IfSome}
 use Rattle.std.specs.List.{list_any}
 use Rattle.std.specs.Io.KnownBytes.{Appends}
@@ -10,10 +10,11 @@ use Rattle.mm_types.specs.declared.limits.TheConstants.{INPUT_BYTES}
 use Rattle.journal.specs.Journal.{IsBeforeOrAfter, StandsFor}
 use Rattle.durable.specs.Printed.{Printed, Runs, RunsLines, answers, kept_lines}
 
--- What was written when a run stopped for a fault. `text` has the answers to the first lines; the lines of `next` were run but not
--- answered. After a failed write (`Write`) only a prefix of `text` was written; for any other fault all of `text` was written. `next` is
--- empty if a read failed (`Read`), since a read can fail only when all lines that were run are answered. `next` is also empty if a write
--- failed; then all lines to be kept that were run are on the disk.
+-- What was written when a run stopped for a fault. `next` has the last of the lines that were run, which were not answered; `text` has the
+-- answers to the lines before these. The content of the writer is `old` before the run and `new` after it. After a failed write (`Write`) a
+-- prefix of `text` was written, perhaps all of it; for any other fault all of `text` was written. `next` is empty if a read failed
+-- (`Read`), since a read can fail only when all lines that were run are answered. `next` is also empty if a write failed; then each line
+-- that was run and is to be kept is on the disk.
 abbrev pub WritesUntil : RunFault → List (List ℕ) → Option (List ℕ) → Option (List ℕ) → List ℕ → Type 0
 WritesUntil Read next old new text = (next ≡ []) × Appends old new text
 WritesUntil Write next old new text = (next ≡ []) × AppendsFront old new text
@@ -26,8 +27,8 @@ abbrev pub IsTooLong : List (List ℕ) → Type 0
 IsTooLong ls = (list_any (λ l. nat_lt INPUT_BYTES (length l)) ls ≡ true) ⊎ (2 ^ 64 - 1 ≤ length ls)
 
 module _ {S : Type 0} (runs : Runs S) where
-  -- A file stands for the lines that it had before the run, followed by the lines to be kept among the first lines of the run; no line is
-  -- skipped, and no line is there in part.
+  -- A file stands for the lines that it had before the run, followed by the lines to be kept among the first n lines of the run, for some
+  -- n; no line is skipped, and no line is there in part.
   pub record LeavesFront (s : S) (before : List (List ℕ)) (ls : List (List ℕ)) (file : List ℕ) : Type 0 where
     pub first : List (List ℕ)
     pub rest : List (List ℕ)
@@ -37,9 +38,9 @@ module _ {S : Type 0} (runs : Runs S) where
     pub ran : RunsLines runs s first printed after
     pub stands : StandsFor (before ++ kept_lines first printed) file
 
-  -- A run stopped for a fault. The answers to the first lines were written, or only a prefix of these answers if a write failed. The next
-  -- lines were run but not answered. A file that a crash leaves has the lines from before the run and the lines to be kept among the first
-  -- lines, and either none or all of the lines to be kept among the next lines.
+  -- A run stopped for a fault. The answers to some first lines (`first`) were written; if a write failed, perhaps only a prefix of these
+  -- answers. The next lines (`next`) were run but not answered. A file that a crash leaves has the lines from before the run and the lines
+  -- to be kept among the first lines, and either none or all of the lines to be kept among the next lines.
   pub record Stops (fault : RunFault) (s : S) (before : List (List ℕ)) (ls : List (List ℕ)) (old new : Option (List ℕ)) (may_leave : List ℕ → Type 0) : Type 0 where
     pub first : List (List ℕ)
     pub next : List (List ℕ)

@@ -20,7 +20,7 @@ FindsLines (Some rest) bytes head = recovered_lines bytes ≡ head ∷ recovered
 abbrev pub IsBegunOrNot : List ℕ → List (List ℕ) → List ℕ → Type 0
 IsBegunOrNot head ls file = StandsFor ls file ⊎ StandsFor (begun_lines head ls) file
 
--- the faults that a search for the head can find: the file is no journal, or its journal was begun with a different metamodel
+-- the faults that a search for the head can find: the file is no journal, or its journal was begun with a different metamodel document
 abbrev pub IsOfHead : JournalFault → Type 0
 IsOfHead refused.NoJournal = Unit {0}
 IsOfHead refused.OtherMetamodel = Unit {0}

@@ -55,18 +55,19 @@ pub record Gives {D W : Type 0} (contents : W → Option (List ℕ)) (seen : D �
   pub held : held_by new ≡ []
   pub written : Appends (contents (writer_of old)) (contents (writer_of new)) (held_by old)
 
--- the entries of the file have 2^62 bytes or more, so the file gets no more entries
+-- the entries of the file, each a mark, a line and a newline, have 2^62 bytes or more in all, so the file gets no more entries
 abbrev pub IsFull : {D W : Type 0} → (D → List ℕ) → Outbox D W → Type 0
 IsFull seen outbox = 2 ^ 62 ≤ length (entries (kept_by seen outbox))
 
--- the fault of a run whose journal fails
+-- the fault that a run stops with, if its journal fails with a fault of the disk
 abbrev pub run_fault : DiskFault → RunFault
 run_fault fails.Memory = stops.Memory
 run_fault fails.Failed = stops.Journal
 run_fault fails.Full = stops.Journal
 
--- The answers were not given because of a fault. If a write failed, a prefix of the answers is written, and a file that a crash leaves has
--- all lines that were noted. If a call of the disk failed, the file was full, or memory was refused, no byte of an answer is written.
+-- The answers were not given because of a fault. If a write or the flush failed, a prefix of the answers is written, perhaps all of them,
+-- and a file that a crash leaves has the lines that were kept before and all lines that were noted. If a call of the disk failed, the file
+-- was full, or memory was refused, no byte of an answer is written.
 abbrev pub FailsToGive : {D W : Type 0} → (W → Option (List ℕ)) → (D → List ℕ) → (D → List ℕ → Type 0) → (D → ℕ) → Outbox D W → RunFault → Outbox D W → Type 0
 FailsToGive contents seen may_leave faults old stops.Read new = ⊥
 FailsToGive contents seen may_leave faults old stops.Write new =

@@ -32,13 +32,13 @@ answers = flat_map answer
 abbrev pub kept_line : List ℕ → Printed → List (List ℕ)
 kept_line l p = if is_kept p.turn then l ∷ [] else []
 
--- the lines that are kept, given what each line printed and how it ended; a line without an output is not kept
+-- the lines that are kept; ps says what each line printed and how it ended, and a line without an entry in ps is not kept
 abbrev pub kept_lines : List (List ℕ) → List Printed → List (List ℕ)
 kept_lines [] ps = []
 kept_lines (l ∷ ls) [] = []
 kept_lines (l ∷ ls) (p ∷ ps) = kept_line l p ++ kept_lines ls ps
 
--- how a session runs a line: the session before, the line, its output, and the session after
+-- how a session runs a line: the session before, the line, its output and how it ended, and the session after
 abbrev pub Runs : Type 0 → Type 1
 Runs S = S → List ℕ → Printed → S → Type 0
 

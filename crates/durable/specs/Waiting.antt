@@ -1,5 +1,5 @@
 -- What an outbox becomes by calls of `before_wait`. If each call succeeds, the outbox has given the answers that it held back; without a
--- call it stays as it is. The file also says what the outbox becomes if a call fails.
+-- call the outbox stays as it is. This file also says what the outbox becomes if a call fails.
 use Rattle.std.specs.Prelude.{◌≡◌, ◌≤◌, ◌⊎◌, ℕ, List, [], ◌++◌, Option, refl}
 use Rattle.std.specs.Io.KnownBytes.{Appends}
 use Rattle.std.proofs.Common.{inl, inr, ⊎_elim, sym, ◌∙◌, ap, subst, arith, append-nil, append_assoc}

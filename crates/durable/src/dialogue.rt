@@ -26,14 +26,14 @@ fn is_over(end: LineEnd, line: &[u8]) -> bool
     }
 }
 
-/// Runs the lines of an input in turn, and answers each with the text that it prints and an empty line. Answers are held back. Before each
-/// read that may wait, and when 65,536 bytes of answers or more are held back, the lines that are to be kept are put on the disk, and then
-/// the answers are written. So the lines that the reader has read ahead are put on the disk together, unless their answers have 65,536
-/// bytes or more.
+/// Runs the lines of an input in turn, and answers each line with the text that the line prints and an empty line. Answers are held back
+/// until one of three moments: before a read that may wait, when 65,536 bytes of answers or more are held back, or at the end of the input.
+/// At such a moment each line that was run so far and is to be kept is put on the disk, and then the answers are written. So the lines that
+/// the reader has read ahead are put on the disk together, unless their answers have 65,536 bytes or more.
 ///
 /// Fails with `Read` if a read fails; with `TooLong` if a line has more than `INPUT_BYTES` bytes, or the input more than `u64::MAX - 1`
 /// lines; with `Journal` if the disk fails, or the file is full; with `Write` if a write or a flush fails, or a write takes no byte; and
-/// with `Memory` if memory is refused to the run itself.
+/// with `Memory` if memory is refused to the run itself (if memory is refused to the command of a line, only this command is refused).
 pub fn run_dialogue<R: Read, S: Session, D: Disk, W: Write>(
     alloc: Global,
     reader: &mut BufReader<R>,
@@ -48,16 +48,16 @@ pub fn run_dialogue<R: Read, S: Session, D: Disk, W: Write>(
         (W.contents (writer_of outbox.old)) (W.contents (writer_of outbox.new)) (kept_by D.seen outbox.new) session.new) }
     ensures end { OnOk result (OnSome (reader_remaining R.remaining reader.old) (IsAtEnd (reader_remaining R.remaining reader.new))) }
     ensures at_rest { OnOk result (IsAtRest D.seen D.may_leave outbox.new) }
-    // Whatever stops the run, each file that a crash may leave has the lines to be kept among the lines that were answered. The same holds
-    // if calls fail because the machine stops.
+    // Whatever stops the run, each file that a crash may leave has the lines to be kept among the lines that were answered. This is also
+    // true if calls fail because the machine stops.
     ensures stopped { IfErr result (λ fault. StopsIn S.runs fault (reader_remaining R.remaining reader.old) session.old (kept_by D.seen outbox.old)
         (W.contents (writer_of outbox.old)) (W.contents (writer_of outbox.new)) (D.may_leave (disk_under outbox.new))) }
     // `TooLong` is returned only if a line is too long, or if there are too many lines, and `Journal` only if the disk failed or the file
     // is full.
     ensures long { IsErrOf result RunFault.TooLong → IfSome (reader_remaining R.remaining reader.old) (λ input. IsTooLong (lines input)) }
     ensures disk { IsErrOf result RunFault.Journal → (D.faults (disk_under outbox.old) < D.faults (disk_under outbox.new)) ⊎ IsFull D.seen outbox.new }
-    // A crash at any moment leaves the lines from before the run, followed by the lines to be kept among the first lines of the input,
-    // however many these are.
+    // A crash at any moment leaves a file with the lines from before the run, followed by the lines to be kept among the first n lines of
+    // the input, for some n.
     ensures any_moment { LeavesOnly D.moment D.left_since (disk_under outbox.old) (disk_under outbox.new)
         (LeavesIn S.runs (reader_remaining R.remaining reader.old) session.old (kept_by D.seen outbox.old)) }
 {

@@ -26,14 +26,15 @@ pub fn head_of(alloc: Global, digest: &[u8]) -> Result<Vec<u8>, AllocError>
     Ok(head)
 }
 
-/// Whether a crash may have left a file with the content `bytes`, if the crash came before the head was written, or while it was written.
-/// Called only for bytes that stand for no line.
+/// Whether a crash that came before the head was written, or while the head was written, may have left a file with the content `bytes`.
+/// This function is called only for bytes that stand for no line.
 fn is_unbegun(bytes: &[u8], head: &[u8]) -> bool {
     match bytes {
         [] => true,
         // The write of the text after the newline was interrupted.
         [NEWLINE, rest @ ..] => rest.len().saturating_sub(2) <= head.len(),
-        // The write of the first byte, a newline or a mark, was interrupted. A later cut of the file may have been interrupted too.
+        // The write of the first byte was interrupted, so this byte may be any byte. It was to be a newline, or the mark with which the
+        // entry of a line begins. A later cut of the file may have been interrupted too.
         [_, rest @ ..] => match rest.strip_prefix(head) {
             Some(more) => matches!(more, [] | [NEWLINE] | [NEWLINE, NEWLINE]),
             None => head.starts_with(rest),
@@ -41,10 +42,11 @@ fn is_unbegun(bytes: &[u8], head: &[u8]) -> bool {
     }
 }
 
-/// The bytes of a file after its head; `None` if the journal is still to be begun.
+/// The bytes of a file after its first line, if this line is `head`; `None` if the journal is still to be begun.
 ///
-/// Fails with `OtherMetamodel` if the file begins with the head of a different metamodel, and with `NoJournal` if it begins with no head
-/// and is no file that a crash may leave while a journal is begun.
+/// Fails with `OtherMetamodel` if the first line begins as a head does, but is not `head`: the journal was begun with a different metamodel
+/// document. Fails with `NoJournal` if the first line is no head; and also if the file has no line, and is no file that a crash may leave
+/// while a journal is begun.
 pub fn behind_head<'a>(bytes: &'a [u8], head: &[u8]) -> Result<Option<&'a [u8]>, JournalFault>
     ensures found { IfOk result (λ found. FindsLines found bytes.now head.now) }
     ensures kind { IfErr result IsOfHead }

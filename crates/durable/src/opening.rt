@@ -19,7 +19,7 @@ pub enum JournalFault {
     NoJournal,
     /// The journal was begun with a metamodel document that differs from the present one in at least one byte.
     OtherMetamodel,
-    /// The line of this number was not done when it was run again, or is no line that a journal keeps. The head is line 1.
+    /// The line with this number was not done when it was run again, or is no line that a journal keeps. The head is line 1.
     Line(u64),
 }
 
@@ -32,7 +32,7 @@ impl From<DiskFault> for JournalFault {
     }
 }
 
-/// Puts the head into a journal that has no line, and syncs it to the disk.
+/// Puts the head into a journal that has no line, and syncs the head to the disk.
 fn begin<D: Disk + Drop>(
     mut journal: Journal<D>,
     head: &[u8],
@@ -56,7 +56,8 @@ fn begin<D: Disk + Drop>(
     }
 }
 
-/// Opens the journal in a file whose bytes are `bytes`, and begins the journal with the head if the file has no line.
+/// Opens the journal in the file of `disk`, whose bytes are `bytes`. If the file has no line, begins the journal with `head`; if the file
+/// has lines, does not look whether the first is `head` (`behind_head` does).
 ///
 /// Fails with `Failed` if the disk fails, and with `Memory` if memory is refused. An error returns the disk too.
 pub fn open_journal<D: Disk + Drop>(
@@ -71,7 +72,8 @@ pub fn open_journal<D: Disk + Drop>(
     ensures settled { IfOk result (λ journal. IsSettled D.seen D.may_leave journal) }
     ensures kept { IfOk result (λ journal. journal_lines D.seen journal ≡ begun_lines head.now (recovered_lines bytes.now)) }
     ensures noted { IfOk result (λ journal. noted_lines journal ≡ []) }
-    // A crash at any moment leaves a file of the same lines. If the file had no line, the crash may also leave a file of the head alone.
+    // A crash at any moment leaves a file with the lines that the file had. If the file had no line, the crash may also leave a file of the
+    // head alone.
     ensures any_moment { IfOk result (λ journal. LeavesOnly D.moment D.left_since disk (disk_of journal)
         (IsBegunOrNot head.now (recovered_lines bytes.now))) }
     ensures any_moment_err { IfErr result (λ e. LeavesOnly D.moment D.left_since disk e.1 (IsBegunOrNot head.now (recovered_lines bytes.now))) }

@@ -1,4 +1,4 @@
-//! Answers are held back until the lines that were run and are to be kept are on the disk.
+//! The answers to lines are held back until each of these lines that is to be kept is on the disk.
 ghost use Rattle.std.specs.Prelude.{◌≡◌, ◌≤◌, ◌⊎◌, [], IfErr, OnErr, OnOk};
 ghost use Rattle.std.specs.Io.KnownBytes.{Appends};
 ghost use Rattle.script_streams.specs.Streams.{AppendsFront};
@@ -11,10 +11,10 @@ use script_streams::{RunFault, Waits, write_all};
 use std::alloc::Global;
 use std::io::Write;
 
-/// If at least this many bytes of answers are held back, `settle_if_full` writes the answers.
+/// If at least this many bytes of answers are held back, `settle_if_full` calls `settle`, which writes them.
 const HELD_BYTES: usize = 1 << 16;
 
-/// A journal, answers that are held back, and the writer for them.
+/// A journal, answers that are held back, and the writer of the answers.
 #[derive(Drop)]
 pub struct Outbox<D: Disk, W> {
     journal: Journal<D>,
@@ -35,7 +35,7 @@ fn write_answers<W: Write>(writer: &mut W, answers: &[u8]) -> Result<(), RunFaul
     Ok(())
 }
 
-/// Why a run stops if its journal fails.
+/// The fault that a run stops with, if its journal fails with `fault`.
 fn fault_of(fault: DiskFault) -> RunFault
     ensures { result ≡ run_fault fault }
 {
@@ -46,7 +46,7 @@ fn fault_of(fault: DiskFault) -> RunFault
 }
 
 impl<D: Disk, W> Outbox<D, W> {
-    /// An outbox that holds nothing back.
+    /// An outbox that holds no answer back.
     pub fn new(alloc: Global, journal: Journal<D>, writer: W) -> Self
         ensures journal { journal_of result ≡ journal }
         ensures held { held_by result ≡ [] }

@@ -13,7 +13,9 @@ use std::alloc::{AllocError, Global};
 pub enum ReplayFault {
     /// Memory was refused.
     Memory,
-    /// A line was not done, or is not to be kept. So no session of this kind has kept these lines.
+    /// A line was not done, although memory was not refused to it, or the line is not to be kept. If the session had nothing that concerns
+    /// only this session when it began (`Twin::is_alone`), then no session that was the same when it began (`Twin::alike`) has kept exactly
+    /// these lines.
     Refused,
 }
 
@@ -25,8 +27,8 @@ impl From<AllocError> for ReplayFault {
     }
 }
 
-/// Runs the lines that the bytes of a file stand for. Fails with `Refused` at the first line that is not done, or that is not to be kept,
-/// and with `Memory` if memory is refused.
+/// Runs the lines that the bytes of a file stand for. Fails with `Memory` if memory is refused, to a line or for the text that it prints.
+/// Otherwise fails with `Refused` at the first line that is not done, or that is not to be kept.
 pub fn replay<S: Session>(alloc: Global, session: &mut S, file: &[u8]) -> Result<(), ReplayFault>
     ensures ok { OnOk result (RunsKept S.runs session.old (recovered_lines file.now) session.new) }
     ensures refused { IsErrOf result ReplayFault.Refused → Refuses S.runs session.old (recovered_lines file.now) }

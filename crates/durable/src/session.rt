@@ -12,7 +12,8 @@ pub(crate) const NEWLINE: u8 = b'\n';
 pub enum JournalTurn {
     /// The line was done, and is to be kept.
     Kept,
-    /// The line is not to be kept: it was refused, is blank or bad, only reads, or concerns only this session.
+    /// The line is not to be kept: it was refused for a reason other than memory, is blank or bad, only reads, or concerns only this
+    /// session.
     Other,
     /// The line was refused because memory was refused.
     Lost,
@@ -34,7 +35,8 @@ impl JournalTurn {
 
 /// Runs lines in turn.
 pub trait Session {
-    /// How the session runs a line: what the line prints and how it ends, and the session after it.
+    /// How a session runs a line: the session before the line, the line, what the line prints and how it ends, and the session after the
+    /// line.
     ghost runs: { Self → List ℕ → Printed → Self → Type 0 };
 
     /// Runs a line, and appends to `text` what the line prints. Fails only if memory is refused for the text.
@@ -44,25 +46,25 @@ pub trait Session {
 
 /// A session that can be recovered from the lines that were kept: a second session, its twin, runs only these lines.
 pub trait Twin: Session {
-    /// Two sessions are the same, except for things that concern only one session.
+    /// Two sessions are the same, except for things that concern only one of the two.
     ghost alike: { Self → Self → Type 0 };
 
     /// The session has nothing that concerns only this session.
     ghost is_alone: { Self → Type 0 };
 
     /// A line that is not to be kept changes nothing but things that concern only this session: if the session was the same as its twin
-    /// (`alike`), it still is.
+    /// (`alike`), the session after the line is still the same as this twin.
     ghost others: { (s t x : Self) (l : List ℕ) (p : Printed) → Self.Session.runs s l p t → is_kept_turn p.turn ≡ false → alike s x → alike t x };
 
-    /// If a session and its twin are the same (`alike`), and both keep the same line, they are still the same after this line.
+    /// If a session and its twin are the same (`alike`), and both run and keep the same line, they are still the same after this line.
     ghost kept: { (s t x y : Self) (l : List ℕ) (p q : Printed) → Self.Session.runs s l p t → is_kept_turn p.turn ≡ true → alike s x
         → Self.Session.runs x l q y → is_kept_turn q.turn ≡ true → alike t y };
 
     /// Let a session and its twin be the same (`alike`), and let the twin have nothing that concerns only the twin (`is_alone`). If the
-    /// session keeps a line, the twin refuses this line only if memory is refused.
+    /// session keeps a line, the twin keeps this line too, unless memory is refused to the twin.
     ghost done: { (s t x y : Self) (l : List ℕ) (p q : Printed) → Self.Session.runs s l p t → is_kept_turn p.turn ≡ true → alike s x → is_alone x
         → Self.Session.runs x l q y → is_kept_turn q.turn ≡ false → is_lost_turn q.turn ≡ true };
 
-    /// If `is_alone` is true of a session, it is still true after a line that is kept.
+    /// If `is_alone` is true of a session, `is_alone` is still true of the session after a line that the session keeps.
     ghost alone: { (x y : Self) (l : List ℕ) (q : Printed) → is_alone x → Self.Session.runs x l q y → is_kept_turn q.turn ≡ true → is_alone y };
 }

@@ -1,14 +1,14 @@
 -- An index before which a list has no proxy, after an edit of the list.
-use Rattle.std.proofs.Common.{◌≡◌, ℕ, zero, suc, ◌-◌, ◌<◌, ◌≤◌, false, List, length, get_or, Option, Some, None, option_map, unwrap_or, refl, sym, ap, ◌∙◌, inl, inr, arith, true≢false}
+use Rattle.std.proofs.Common.{◌≡◌, ℕ, suc, ◌-◌, ◌<◌, ◌≤◌, false, List, length, get_or, Option, Some, None, option_map, unwrap_or, refl, sym, ap, ◌∙◌, inl, inr, arith, true≢false}
 use Rattle.std.specs.Prelude.{option_and_then}
 use Rattle.std.specs.List.{insert, remove, slice_get}
 use Rattle.std.specs.Option.{option_map_or}
-use Rattle.std.proofs.lemmas.Bool.{cases_lt, cases_order}
+use Rattle.std.proofs.lemmas.Bool.{cases_lt}
 use Rattle.std.proofs.lemmas.Option.{none-some, slice_get-get_or}
 use Rattle.mm_types.specs.declared.value.Value.{Value}
 use Rattle.mm_types.specs.declared.value.Value.TheVariants as value
 use Rattle.links.specs.Links.{text_of}
-use Rattle.links.proofs.ListLemmas.{slice_get-insert_above, slice_get-insert_at, slice_get-insert_below, slice_get-remove_above, slice_get-remove_below, length_remove}
+use Rattle.links.proofs.ListLemmas.{slice_get-remove_above, slice_get-remove_below, length_remove}
 use Rattle.slot_lists.specs.Moved.{list_after_move}
 use Rattle.end_values.specs.Proxies.{HasNoProxyBefore, is_proxy}
 
@@ -20,26 +20,6 @@ no_text (value.Int n) plain = refl
 no_text (value.Text t) plain = refl
 no_text (value.Literal k) plain = refl
 no_text (value.Object o) plain = refl
-
-pub none_before-less : (m n : ℕ) (vs : List Value) → m ≤ n → HasNoProxyBefore n vs → HasNoProxyBefore m vs
-none_before-less m n vs le none k lt = none k (omega (arith, lt, le))
-
--- a value is put in past the values that are known to be no proxies
-pub none_before-insert_past : (n i : ℕ) (vs : List Value) (v : Value) → i ≤ length vs → n ≤ i → HasNoProxyBefore n vs → HasNoProxyBefore n (insert vs i v)
-none_before-insert_past n i vs v within le none k lt =
-    ap (option_and_then text_of) (slice_get-insert_below vs i k v (omega (arith, lt, le)) within) ∙ none k lt
-
--- a value that is no proxy is put in among them, or next to the last of them
-pub none_before-insert : (n i : ℕ) (vs : List Value) (v : Value) → i ≤ length vs → i ≤ n → is_proxy v ≡ false → HasNoProxyBefore n vs → HasNoProxyBefore (suc n) (insert vs i v)
-none_before-insert n i vs v within le plain none k lt = elim (cases_order k i) [
-  | inl same ↦ ap (λ (j : ℕ). option_and_then text_of (slice_get (insert vs i v) j)) same ∙ ap (option_and_then text_of) (slice_get-insert_at vs i v within) ∙ no_text v plain
-  | inr (inl below) ↦ ap (option_and_then text_of) (slice_get-insert_below vs i k v below within) ∙ none k (omega (arith, below, le))
-  | inr (inr above) ↦ behind k above lt
-]
-  where
-    behind : (k : ℕ) → i < k → k < suc n → option_and_then text_of (slice_get (insert vs i v) k) ≡ None
-    behind zero above lt = absurd (omega (arith, above))
-    behind (suc k) above lt = ap (option_and_then text_of) (slice_get-insert_above vs i k v (omega (arith, above)) within) ∙ none k (omega (arith, lt))
 
 -- a value is taken out past them
 pub none_before-remove_past : (n i : ℕ) (vs : List Value) → n ≤ i → HasNoProxyBefore n vs → HasNoProxyBefore n (remove vs i)

@@ -5,7 +5,7 @@ use Rattle.mm_types.specs.declared.numbers.ObjectNo.{ObjectNo}
 use Rattle.mm_types.specs.declared.value.Value.{Value}
 use Rattle.mm_types.specs.declared.value.Value.TheVariants as value
 
--- the values in order, how many more the list can take without memory, and whether it can take other values than objects
+-- the values in order; how many more values can be inserted without taking memory; and whether the list can have other values than objects
 pub record EndValues : Type 0 where
   pub items : List Value
   pub spare : ℕ
@@ -18,7 +18,7 @@ object_value o = value.Object o
 abbrev pub objects : List ObjectNo → List Value
 objects os = map object_value os
 
--- whether a list may have a value; `mixed` says whether the list may have other values than objects
+-- a list may have a value: the value is an object, or mixed is true, which says that the list may have other values than objects
 abbrev pub CanHave : Bool → Value → Type 0
 CanHave mixed (value.Object o) = Unit {0}
 CanHave mixed v = mixed ≡ true

@@ -18,9 +18,10 @@ use std::alloc::{AllocError, Global};
 use std::marker::Model;
 use std::mem;
 
-/// The layout of the values of an end in memory. Most ends have only objects: four bytes each. Some removals from a long list check the
-/// guess at the index of the removed object (`is_tried`). If the guess is wrong, the objects are in no order. The list is then `Shuffled`
-/// until `reserve` gives labels to the objects, or `mix` makes the list `Mixed`.
+/// The layout of the values of an end in memory. Most ends have only objects, and each object takes four bytes. Some removals from a long
+/// list of objects check the guess at the index of the removed object (`is_tried`). If the guess is wrong, the numbers of the objects
+/// neither rise nor fall along the list. The list is then `Shuffled` until `reserve` gives labels to the objects, or `mix` makes the list
+/// `Mixed`.
 #[derive(Drop)]
 enum Layout {
     Objects(ShortList<ObjectNo>),
@@ -29,7 +30,8 @@ enum Layout {
     Mixed(Box<MixedList>),
 }
 
-/// The values of an end, and capacity for more. A list has only objects until `mix` says that it may have other values.
+/// The values of an end, and capacity for more. A list has only objects until `mix` is called; from then on the list may have other values
+/// too.
 #[derive(Drop)]
 pub struct EndValueList {
     layout: Layout,
@@ -78,7 +80,7 @@ impl EndValueList {
         }
     }
 
-    /// The object at an index; `None` past the last value, and if no object is there.
+    /// The object at an index; `None` past the last value, and if the value at the index is no object.
     #[tactic(auto, using(crate::proofs::EndValueLemmas::object_of_objects))]
     pub fn object_at(&self, index: usize) -> Option<ObjectNo>
         ensures { result ≡ option_and_then object_of (slice_get self.now.items index) }
@@ -90,7 +92,7 @@ impl EndValueList {
         }
     }
 
-    /// The text of the proxy at an index; `None` past the last value, and if no proxy is there.
+    /// The text of the proxy at an index; `None` past the last value, and if the value at the index is no proxy.
     #[tactic(auto, using(crate::proofs::EndValueLemmas::text_of_objects))]
     pub fn text_at(&self, index: usize) -> Option<&str>
         ensures { option_copied result ≡ option_and_then text_of (slice_get self.now.items index) }
@@ -101,7 +103,7 @@ impl EndValueList {
         }
     }
 
-    /// Whether a value is at an index.
+    /// Whether the value at an index is the same as `value`; false past the last value.
     #[tactic(auto, using(crate::proofs::EndValueLemmas::is_value_objects))]
     pub fn is_at(&self, index: usize, value: &Value) -> bool
         ensures { result ≡ is_value value.now (slice_get self.now.items index) }
@@ -124,7 +126,7 @@ impl EndValueList {
         }
     }
 
-    /// An index before which there is no proxy.
+    /// An index before which there is no proxy; it may be the number of values.
     #[tactic(auto, using(crate::proofs::EndValueLemmas::text_of_objects))]
     pub fn proxy_start(&self) -> usize
         ensures { HasNoProxyBefore result self.now.items }
@@ -136,9 +138,10 @@ impl EndValueList {
         }
     }
 
-    /// A guess at the index of a value. In a list with labels, the guess is right if each object has a label and the labels rise along the
-    /// list. In a list with neither labels nor proxies, the guess is right if the numbers of the objects rise or fall along the list. The
-    /// guess for a proxy is right if the proxy is the first one, and no object comes after it. Otherwise the guess may be any index.
+    /// A guess at the index of a value of the list. In a list with labels, the guess is right if each object has a label and the labels
+    /// rise along the list. In a list with neither labels nor proxies, the guess is right if the numbers of the objects rise or fall along
+    /// the list. The guess for a proxy is right if the proxy is the first proxy of the list, and no object comes after this proxy.
+    /// Otherwise the guess may be any index, or the number of values.
     pub fn guess(&self, value: &Value) -> usize {
         match (&self.layout, value) {
             (Layout::Objects(list) | Layout::Shuffled(list), Value::Object(object)) => {
@@ -150,7 +153,7 @@ impl EndValueList {
         }
     }
 
-    /// Whether a removal found that the objects of the list are in no order, and the list has no labels yet.
+    /// Whether a removal found that the numbers of the objects neither rise nor fall along the list, and the objects have no labels yet.
     pub fn needs_labels(&self) -> bool {
         matches!(self.layout, Layout::Shuffled(_))
     }
@@ -177,8 +180,8 @@ impl EndValueList {
         }
     }
 
-    /// Reserves capacity for more values. Also gives labels to the objects if a removal found that they are in no order, and if there is
-    /// memory for the labels. Fails only if memory is refused for the values, and then the values stay and no capacity is lost.
+    /// Reserves capacity for `additional` more values. If `needs_labels` is true and there is memory for labels, also gives labels to the
+    /// objects. Fails only if memory is refused for the values, and then the values stay and no capacity is lost.
     pub fn reserve(&mut self, alloc: Global, additional: usize) -> Result<(), AllocError>
         ensures items { self.new.items ≡ self.old.items }
         ensures spare { self.old.spare ≤ self.new.spare }
@@ -198,7 +201,7 @@ impl EndValueList {
         }
     }
 
-    /// Gives labels to the objects if a removal found that they are in no order. If there is no memory for the labels, nothing changes.
+    /// Gives labels to the objects if the list is `Shuffled`. If there is no memory for the labels, nothing changes.
     #[cold]
     fn label(&mut self, alloc: Global)
         ensures items { self.new.items ≡ self.old.items }
@@ -212,8 +215,8 @@ impl EndValueList {
         }
     }
 
-    /// Inserts a value before the value at an index or after the last value. The list has capacity for the value. Takes no memory. A value
-    /// that is no object is inserted only after `mix`.
+    /// Inserts a value before the value at an index, or after the last value if the index is the number of values. Needs capacity for the
+    /// value, and an earlier call of `mix` if the value is no object. Takes no memory.
     #[tactic(auto, using(crate::proofs::EndValueLemmas::insert_objects, crate::proofs::EndValueLemmas::length_objects))]
     #[inline(always)]
     pub fn insert(&mut self, index: usize, value: Value)
@@ -249,8 +252,8 @@ impl EndValueList {
         }
     }
 
-    /// Called just before the value at `index` is taken out. Checks the guess for the object there, but only in the layout `Objects`, and
-    /// only at some indexes (`is_tried`). If the guess is wrong, the list becomes `Shuffled`, so that `reserve` gives it labels.
+    /// Checks the guess for the object at `index`, just before this object is taken out. Does so only in the layout `Objects`, and only at
+    /// some indexes (`is_tried`). If the guess is wrong, the list becomes `Shuffled`, so that `reserve` gives labels to the objects.
     fn try_guess(&mut self, index: usize)
         ensures { self.new ≡ self.old }
     {
@@ -327,7 +330,7 @@ fn is_number(there: Option<&ObjectNo>, object: ObjectNo) -> bool
     }
 }
 
-/// The object that a value is.
+/// The object of a value that is an object.
 fn into_object(value: Value) -> ObjectNo
     requires { CanHave false value }
     ensures { value ≡ object_value result }
@@ -338,7 +341,7 @@ fn into_object(value: Value) -> ObjectNo
     }
 }
 
-/// The index of a value in a list of objects.
+/// The index of a value in a list of objects; `None` if the value is no object of the list.
 fn position_in(list: &ShortList<ObjectNo>, value: &Value) -> Option<usize>
     ensures { result ≡ position (same_value value.now) (objects list.now.items) }
 {
@@ -360,7 +363,7 @@ fn values_of(alloc: Global, list: &ShortList<ObjectNo>) -> Result<Box<MixedList>
     Ok(values)
 }
 
-/// Puts the objects of `list` into `values`, which is empty and has capacity for them.
+/// Puts the objects of `list` into `values`. `values` has to be empty, and has to have capacity for the objects.
 fn push_objects(values: &mut MixedList, list: &ShortList<ObjectNo>)
     requires room { length list.now.items ≤ values.old.spare }
     requires none { values.old.items ≡ [] }

@@ -5,8 +5,8 @@ use index_guesses::by_rank;
 use mm_types::{ObjectNo, Value};
 use slot_lists::ShortList;
 
-/// A guess at the index of an object. The guess is right if the object is the first or the last one, or if the numbers of the objects rise
-/// or fall along the list. Otherwise the guess may be any index.
+/// A guess at the index of an object of a list. The guess is right if the object is the first or the last of the list, or if the numbers of
+/// the objects rise or fall along the list. Otherwise the guess may be any index.
 pub(crate) fn guess_object(list: &ShortList<ObjectNo>, object: ObjectNo) -> usize {
     by_rank(list.len(), u64::from(object.0), |index| {
         rank_of(list.get(index))
@@ -26,10 +26,11 @@ pub(crate) fn is_out_of_order(list: &ShortList<ObjectNo>, index: usize) -> bool 
     }
 }
 
-/// A guess at the index of a value. For an object, the guess is made by the numbers of the objects. It may be wrong if the numbers neither
-/// rise nor fall along the list, or if the list has proxies. For a proxy, the guess is the index of the first proxy, if all objects come
-/// before all proxies; otherwise the guess may be any index. If a list of proxies is resolved in its order, all objects come before the
-/// proxies that are left, and the first of these proxies is resolved next.
+/// A guess at the index of a value of a list. For an object, the guess is made by the numbers of the objects. This guess may be wrong if
+/// the numbers neither rise nor fall along the list, or if the list has proxies. For a proxy, the guess is the index of the first proxy, if
+/// all objects come before all proxies; otherwise the guess may be any index, or the number of values. Suppose that a list at first has
+/// only proxies, and that they are resolved in the order of the list. Then all objects come before the proxies that are left, and the first
+/// of these proxies is resolved next.
 #[cold]
 pub(crate) fn guess_value(list: &MixedList, value: &Value) -> usize {
     match value {

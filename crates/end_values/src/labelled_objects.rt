@@ -1,4 +1,4 @@
-//! A list of objects whose numbers are in no order; the objects are found by labels.
+//! A list of objects that are found by labels, since their numbers neither rose nor fell along the list.
 ghost use Rattle.std.specs.Prelude.{◌≡◌, ◌+◌, ◌<◌, ◌≤◌, length, slice_get, position, option_copied, IfOk, OnErr, OnOk};
 ghost use Rattle.std.specs.List.{insert, remove};
 ghost use Rattle.slot_lists.specs.Moved.{list_after_move};
@@ -30,7 +30,8 @@ impl Model for LabelledObjects {
 }
 
 impl LabelledObjects {
-    /// Moves a list into a `Box`, and gives each object a label. Fails only if memory is refused, and then the list stays where it is.
+    /// Moves the objects of `list` into a `Box`, gives each object a label, and leaves `list` empty. Fails only if memory is refused, and
+    /// then `list` stays as it is.
     #[cold]
     pub fn of(
         alloc: Global,
@@ -50,7 +51,8 @@ impl LabelledObjects {
         Ok(boxed)
     }
 
-    /// Replaces the objects by the objects of `list`, gives each object a label, and leaves `list` empty.
+    /// Replaces the objects by the objects of `list`, and leaves `list` empty. Gives labels to the objects, as far as there is capacity for
+    /// labels.
     fn take_list(&mut self, list: &mut ShortList<ObjectNo>)
         ensures { self.new ≡ list.old }
     {
@@ -80,8 +82,8 @@ impl LabelledObjects {
         &self.list
     }
 
-    /// A guess at the index of an object. The guess is right if each object of the list has a label and the labels rise along the list.
-    /// Otherwise the guess may be any index.
+    /// A guess at the index of an object of the list. The guess is right if each object of the list has a label and the labels rise along
+    /// the list. Otherwise the guess may be any index, or the number of objects.
     #[cold]
     pub fn guess(&self, object: ObjectNo) -> usize {
         match self.labels.get(&object.0) {
@@ -103,8 +105,10 @@ impl LabelledObjects {
         }
     }
 
-    /// A label between the label of the object before `index` and the label of the object at `next`. If there is no object at `next`, the
-    /// label is after the last label. Otherwise, if there is no object before `index`, the label is before the first label.
+    /// A label for an object that comes directly before the object at `next`, and directly after the object before `index`. If the label of
+    /// the object at `next` is at least 2 greater than the label of the object before `index`, the new label is between the two; otherwise
+    /// it is the label of the object before `index`. If there is no object at `next`, `Labels::after` gives the label. Otherwise, if there
+    /// is no object before `index`, `Labels::before` gives the label.
     fn label_amid(&self, index: usize, next: usize) -> u64 {
         if next >= self.list.len() {
             return self.ends.after();
@@ -126,8 +130,8 @@ impl LabelledObjects {
         }
     }
 
-    /// Reserves capacity for more objects, and for their labels. Fails only if memory is refused for the objects, and then the objects stay
-    /// and no capacity is lost. If memory is refused only for the labels, some objects may get no label.
+    /// Reserves capacity for `additional` more objects, and for their labels. Fails only if memory is refused for the objects, and then the
+    /// objects stay and no capacity is lost. If memory is refused only for the labels, some objects may get no label.
     #[cold]
     pub fn reserve(&mut self, alloc: Global, additional: usize) -> Result<(), AllocError>
         ensures items { self.new.items ≡ self.old.items }
@@ -142,7 +146,8 @@ impl LabelledObjects {
         Ok(())
     }
 
-    /// Inserts an object before the object at an index or after the last object. The list has capacity for the object. Takes no memory.
+    /// Inserts an object before the object at an index, or after the last object if the index is the number of objects. Needs capacity for
+    /// the object. Gives the object a label, if there is capacity for the label. Takes no memory.
     #[cold]
     pub fn insert(&mut self, index: usize, object: ObjectNo)
         requires room { 0 < self.old.spare }
@@ -156,8 +161,8 @@ impl LabelledObjects {
         put_label(&mut self.labels, Some(&object), label);
     }
 
-    /// Takes out the object at an index. Some removals (`is_tried`) first look for the object by its label. If they don't find it, they
-    /// give all objects new labels. Takes no memory.
+    /// Takes out the object at an index. Some removals (`is_tried`) first guess the index by the label of the object. If the guess is
+    /// wrong, they give all objects new labels. Takes no memory.
     #[cold]
     pub fn remove(&mut self, index: usize)
         requires { index < length self.old.items }
@@ -174,7 +179,7 @@ impl LabelledObjects {
         self.ends.take(index, self.list.len());
     }
 
-    /// Whether the object at an index is found by its label; true if no object is there.
+    /// Whether the guess for the object at an index is right; true if no object is there.
     fn is_guessed(&self, index: usize) -> bool {
         match self.list.get(index) {
             Some(object) => self.guess(*object) == index,
@@ -182,7 +187,8 @@ impl LabelledObjects {
         }
     }
 
-    /// Moves the object at `from`, so that it is then at `to` (EMF: EList.move), and gives it a new label. Takes no memory.
+    /// Moves the object at `from`, so that it is then at `to` (EMF: EList.move). Gives the object a new label, if it has a label or there
+    /// is capacity for one. Takes no memory.
     #[cold]
     pub fn move_to(&mut self, to: usize, from: usize)
         requires to { to < length self.old.items }

@@ -12,10 +12,10 @@ use slot_lists::SlotList;
 use std::alloc::{AllocError, Global};
 use std::marker::Model;
 
-/// A list of values, and `start`, an index before which there is no proxy. A search for a proxy begins at `start`. Until a value is removed
-/// or moved, `start` is the index of the first proxy, if there is a proxy. It stays the index of the first proxy while the proxies are
-/// resolved in the order of the list, if no object is between the proxies. After other removals and after moves, the first proxy may come
-/// after `start`.
+/// A list of values, and `start`, an index before which there is no proxy. A search for a proxy begins at `start`. If the list has a proxy,
+/// `start` is the index of the first proxy until a value is removed or moved. If no object is between the proxies, `start` also stays the
+/// index of the first proxy while the proxies are resolved in the order of the list. After other removals and after moves, the first proxy
+/// may come after `start`.
 #[derive(Drop)]
 pub(crate) struct MixedList {
     values: SlotList<Value>,
@@ -74,14 +74,14 @@ impl MixedList {
         self.values.position(value)
     }
 
-    /// An index before which there is no proxy.
+    /// An index before which there is no proxy; it may be the number of values.
     pub fn proxy_start(&self) -> usize
         ensures { proxies.HasNoProxyBefore result self.now.items }
     {
         self.start
     }
 
-    /// Reserves capacity for more values. Fails only if memory is refused, and then the values stay and no capacity is lost.
+    /// Reserves capacity for `additional` more values. Fails only if memory is refused, and then the values stay and no capacity is lost.
     pub fn reserve(&mut self, additional: usize) -> Result<(), AllocError>
         ensures items { self.new.items ≡ self.old.items }
         ensures spare { self.old.spare ≤ self.new.spare }
@@ -90,7 +90,8 @@ impl MixedList {
         self.values.reserve(additional)
     }
 
-    /// Inserts a value before the value at an index or after the last value. The list has capacity for the value. Takes no memory.
+    /// Inserts a value before the value at an index, or after the last value if the index is the number of values. Needs capacity for the
+    /// value. Takes no memory.
     pub fn insert(&mut self, index: usize, value: Value)
         requires room { 0 < self.old.spare }
         requires in_range { index ≤ length self.old.items }
@@ -127,14 +128,14 @@ impl MixedList {
     }
 }
 
-/// Whether a value is the text of a proxy.
+/// Whether a value is a proxy.
 fn is_proxy(value: &Value) -> bool
     ensures { result ≡ proxies.is_proxy value.now }
 {
     matches!(value, Value::Proxy(_))
 }
 
-/// Whether there is a value, and it is the text of a proxy.
+/// Whether `there` is a value, and this value is a proxy.
 fn is_proxy_there(there: Option<&Value>) -> bool
     ensures { result ≡ option_map_or proxies.is_proxy (option_copied there.entry) false }
 {

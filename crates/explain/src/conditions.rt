@@ -13,7 +13,7 @@ fn is_bad(name: &str) -> bool {
     !is_name(name.as_bytes())
 }
 
-/// Among the literals of an enumeration, the first that is no name.
+/// The first literal of an enumeration that is no name; `None` if all literals are names.
 fn bad_literal(raw: &RawMeta, i: usize) -> Option<&str> {
     for literal in enum_at(raw, i)?.literals.as_slice() {
         if is_bad(literal.as_str()) {
@@ -42,7 +42,7 @@ fn explain_name(out: &mut String, at: Named<'_>) -> Result<(), AllocError> {
     )
 }
 
-/// Explains a fault of a feature.
+/// Explains what is wrong with the feature at a place at which `condition` applies.
 fn explain_feature(
     alloc: Global,
     out: &mut String,

@@ -9,7 +9,7 @@ use std::collections::BTreeMap;
 /// The names that no enumeration and no class may have.
 const RESERVED: [&str; 5] = ["EString", "EInt", "ELong", "EBoolean", "Resource"];
 
-/// The first position of a text, if it is before `end`.
+/// The position of the first of `texts` that is the same as `text`; `None` if no text before the position `end` is the same.
 fn position_before(texts: &[Text], end: usize, text: &str) -> Option<usize> {
     for (i, other) in texts.iter().enumerate() {
         if i < end && other.as_str() == text {
@@ -19,7 +19,7 @@ fn position_before(texts: &[Text], end: usize, text: &str) -> Option<usize> {
     None
 }
 
-/// Explains texts that the array of a key has twice.
+/// Adds a line for each text of an array that is the same as an earlier text of this array; `key` is the key of the array.
 fn explain_repeated(
     out: &mut String,
     at: Named<'_>,
@@ -89,7 +89,7 @@ fn explain_places(
     }
 }
 
-/// Explains two features of a class, own or inherited, that have one name.
+/// Explains which two features of a class, own or inherited, have the same name. Adds nothing if all features have different names.
 fn explain_clash(
     alloc: Global,
     out: &mut String,
@@ -100,7 +100,8 @@ fn explain_clash(
     explain_places(alloc, out, at, places.as_slice())
 }
 
-/// Explains what occurs twice in an enumeration or a class.
+/// Explains what occurs twice in an enumeration or a class: a literal of the enumeration; a supertype of the class, or the name of a
+/// feature.
 fn explain_inner(alloc: Global, out: &mut String, at: Named<'_>) -> Result<(), AllocError> {
     match at.place {
         Place::Enum(i) => match enum_at(at.raw, i) {
@@ -117,7 +118,8 @@ fn explain_inner(alloc: Global, out: &mut String, at: Named<'_>) -> Result<(), A
     }
 }
 
-/// The place of the first enumeration or class with a name, if it comes before a given place. Enumerations come before classes.
+/// The place of the first enumeration or class with a name; `None` if this place does not come before `place`, which is the place of an
+/// enumeration or a class. All enumerations come before all classes.
 fn earlier(raw: &RawMeta, name: &str, place: Place) -> Option<Place> {
     match (place, enum_named(raw, name), class_named(raw, name)) {
         (Place::Enum(i), Some(e), _) if e < i => Some(Place::Enum(e)),

@@ -226,8 +226,8 @@ pub(crate) const MISPLACED: [Hint; 41] = [
     ("enums", "only the document has it"),
 ];
 
-/// For some keys, a text that is added to a line of the explanation. It is added if the line says that a value of the key, or an item of
-/// its array, is not written as the field says. It is not added to a line about the number of items.
+/// For some keys, a text that is added to a line of the explanation. The text is added to a line which says that the value under the key,
+/// or an item of the array under the key, is not of the required kind. It is not added to a line about the number of items.
 pub(crate) const ADVICE: [Hint; 3] = [
     ("upper", "; -1 stands for any number"),
     (

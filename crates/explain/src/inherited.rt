@@ -33,8 +33,8 @@ impl Ancestry {
         Some(self.reached.get(position)?.class)
     }
 
-    /// Adds the direct supertypes of a class that was reached, except classes that were reached already. `before` is the position of the
-    /// class among the reached classes.
+    /// Adds the direct supertypes of `class`, which was reached, except the supertypes that were reached already. `before` is the position
+    /// of `class` among the reached classes.
     fn add_supers(&mut self, raw: &RawMeta, class: usize, before: usize) -> Result<(), AllocError> {
         let supers = match class_at(raw, class) {
             Some(class) => class.supers.as_slice(),
@@ -49,7 +49,7 @@ impl Ancestry {
         Ok(())
     }
 
-    /// The ancestry of a class.
+    /// The classes that are reached from `class`. Fails only if memory is refused.
     pub(crate) fn of(alloc: Global, raw: &RawMeta, class: usize) -> Result<Ancestry, AllocError> {
         let mut found = Ancestry {
             reached: Vec::new(alloc),
@@ -102,7 +102,7 @@ impl Ancestry {
         Ok(places)
     }
 
-    /// The position of the first reached class that names a given class as its supertype.
+    /// The position of the first reached class that has `name` among the names of its direct supertypes.
     fn below(&self, raw: &RawMeta, name: &str) -> Option<usize> {
         for (i, reached) in self.reached.as_slice().iter().enumerate() {
             if names_super(raw, reached.class, name) {
@@ -112,7 +112,8 @@ impl Ancestry {
         None
     }
 
-    /// The classes on the way from the class at which the search began to the reached class at a position. The reached class comes first.
+    /// The classes on the way from the class at which the search began to the reached class at a position. The list begins with the class
+    /// at the position, and ends with the class at which the search began.
     fn way_to(&self, alloc: Global, position: usize) -> Result<Vec<usize>, AllocError> {
         let mut way = Vec::new(alloc);
         let mut at = position;
@@ -142,7 +143,7 @@ fn names_super(raw: &RawMeta, class: usize, name: &str) -> bool {
     false
 }
 
-/// Explains the cycle by which a class is its own supertype.
+/// Explains the cycle of supertypes by which a class inherits from itself.
 pub(crate) fn explain_cycle(
     alloc: Global,
     out: &mut String,

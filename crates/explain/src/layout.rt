@@ -129,7 +129,7 @@ fn items_at<'v>(json: &'v Value, key: &str) -> &'v [Value] {
     }
 }
 
-/// Whether an attribute is unsettable and not single.
+/// Whether the JSON object of an attribute says that the attribute is unsettable and not single.
 fn unsets_many(json: &Value) -> bool {
     let is_single = match json.get("upper") {
         Some(upper) => upper.as_i64() == Some(1),
@@ -185,7 +185,7 @@ fn name_in(json: &Value) -> Option<&str> {
     }
 }
 
-/// The place of an enumeration or a class, with its name if the name can be read.
+/// The place of an enumeration or a class in words for a reader, with the name of the enumeration or class if it can be read.
 fn place_of(
     alloc: Global,
     key: &str,
@@ -199,7 +199,7 @@ fn place_of(
     }
 }
 
-/// The place of a feature, with the names of its class and of the feature, as far as they can be read.
+/// The place of a feature in words for a reader, with the names of its class and of the feature, as far as the names can be read.
 fn feature_place(
     alloc: Global,
     c: usize,

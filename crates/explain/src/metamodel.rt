@@ -8,7 +8,8 @@ use mm_types::{Condition, MetaFault, Place};
 use serde_json::Value;
 use std::alloc::{AllocError, Global};
 
-/// If the bytes are no JSON, says from which line and column on they are no JSON. Otherwise explains what is wrong with the layout.
+/// If the bytes are no JSON, says from which line and column on they are no JSON. Otherwise explains what is wrong with the layout, and
+/// which limits are exceeded.
 fn explain_bytes(alloc: Global, out: &mut String, bytes: &[u8]) -> Result<(), AllocError> {
     match Value::from_slice(alloc, bytes) {
         Ok(json) => explain_layout(alloc, out, &json),
@@ -26,7 +27,7 @@ fn explain_bytes(alloc: Global, out: &mut String, bytes: &[u8]) -> Result<(), Al
     }
 }
 
-/// Explains what is wrong at a place at which a condition applies. Adds nothing if `load_meta` returns a fault.
+/// Explains what is wrong at a place at which a condition applies. Adds nothing if `load_meta` returns a fault, `Memory` included.
 fn explain_place(
     alloc: Global,
     out: &mut String,
@@ -49,8 +50,8 @@ fn explain_place(
 /// further object is looked at. These lines name an object by its positions in arrays, as `classes[3].features[2]`, and by the names that
 /// can be read.
 ///
-/// For an ill-formed metamodel the lines have the names of enumerations, classes and features. For `Memory` the text is empty. Fails only
-/// if memory is refused.
+/// For an ill-formed metamodel the lines have the names of enumerations, classes and features; the text is empty if memory is refused while
+/// the document is read again. For `Memory` the text is empty. Fails only if memory is refused.
 pub fn explain_meta(alloc: Global, bytes: &[u8], fault: MetaFault) -> Result<String, AllocError> {
     let mut out = String::new(alloc);
     match fault {

@@ -91,7 +91,7 @@ pub(crate) fn class_named(raw: &RawMeta, name: &str) -> Option<usize> {
     None
 }
 
-/// The feature that a class itself declares under a name.
+/// The first feature that a class itself declares under a name; inherited features do not count.
 pub(crate) fn feature_named<'m>(class: &'m RawClass, name: &str) -> Option<&'m RawFeature> {
     for found in class.features.as_slice() {
         if found.name.as_str() == name {

@@ -5,8 +5,7 @@ use crate::near::nearest;
 use mm_types::{Condition, Place, RawFeature, RawKind, RawMeta};
 use std::alloc::{AllocError, Global};
 
-/// The feature with a given name in the class that is the type of a reference. Only features that this class itself declares count, no
-/// inherited ones.
+/// The feature that the type of the reference `feature` declares under the name `name`. Features that the type inherits do not count.
 fn declared_of<'m>(raw: &'m RawMeta, feature: &RawFeature, name: &str) -> Option<&'m RawFeature> {
     let class = class_named(raw, feature.type_name.as_str())?;
     feature_named(class_at(raw, class)?, name)
@@ -58,7 +57,7 @@ fn inherits(alloc: Global, raw: &RawMeta, name: &str, from: &str) -> Result<bool
     Ok(class != other && ancestry.has(other))
 }
 
-/// Explains an opposite whose type is not the class that declares the reference.
+/// Ends a line about the opposite of the reference `feature`. The type of the opposite, `found`, is not the class that declares `feature`.
 fn explain_type(
     alloc: Global,
     out: &mut String,
@@ -114,7 +113,8 @@ fn is_reference_at(raw: &RawMeta, place: Place, name: &str) -> bool {
     }
 }
 
-/// The name of the class that declares a reference with a given name: a given class itself, or a class from which the given class inherits.
+/// The name of the class that declares a reference with the name `name`: the class at the position `class`, or a class from which it
+/// inherits; `None` if none of these classes does.
 fn declaring<'m>(
     alloc: Global,
     raw: &'m RawMeta,

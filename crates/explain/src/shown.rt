@@ -16,7 +16,8 @@ pub struct Shown<'v>(pub &'v Value);
 /// The greatest number of names of a list that are shown.
 const SHOWN_NAMES: usize = 8;
 
-/// Names in words for a reader: of many names only the first ones, and the number of the others.
+/// Names in words for a reader: at most the first 8 names, and how many further names there are. Each name is printed as `{:?}` prints it,
+/// but only its first 60 bytes, in whole characters.
 #[derive(Drop)]
 pub struct Listed<'n>(pub &'n [&'n str]);
 
@@ -34,7 +35,7 @@ impl fmt::Display for Listed<'_> {
     }
 }
 
-/// The beginning of a text: at most `most` bytes, and whole characters.
+/// The longest beginning of a text that has at most `most` bytes and only whole characters.
 pub fn front_of(text: &str, most: usize) -> &str {
     if text.len() <= most {
         return text;

@@ -2,13 +2,13 @@
 use crate::shown::front_of;
 use std::{fmt, str};
 
-/// The greatest number of bytes that are shown.
+/// The greatest number of bytes that are shown of the bytes that are no JSON.
 const SHOWN_BYTES: usize = 20;
 
 /// The mark that some programs write before a text in UTF-8.
 const BYTE_ORDER_MARK: &[u8] = b"\xef\xbb\xbf";
 
-/// Why bytes are no JSON. `NotUtf8` and `Shown` speak of the place from which on the bytes are no JSON.
+/// Why bytes are no JSON. `NotUtf8`, `Shown` and `Before` speak of the place at which the reader stopped.
 #[derive(Clone, Copy)]
 pub(crate) enum NoJson<'b> {
     /// The bytes end before the JSON ends.
@@ -19,6 +19,8 @@ pub(crate) enum NoJson<'b> {
     NotUtf8,
     /// The bytes from the place on are no JSON; they begin with this text.
     Shown(&'b str),
+    /// No bytes follow the place. The reader passed over white space after the part that is no JSON.
+    Before,
 }
 
 impl fmt::Display for NoJson<'_> {
@@ -34,6 +36,7 @@ impl fmt::Display for NoJson<'_> {
                 "from here on the bytes are no JSON: this one is not UTF-8"
             ),
             NoJson::Shown(text) => { write!(f, "from here on the bytes are no JSON: {text:?}") }
+            NoJson::Before => write!(f, "just before this place the bytes are no JSON"),
         }
     }
 }
@@ -73,6 +76,9 @@ pub(crate) fn no_json_at(bytes: &[u8], line: usize, column: usize) -> NoJson<'_>
         return NoJson::ByteOrderMark;
     }
     let rest = bytes.get(offset_of(bytes, line, column)..).unwrap_or(&[]);
+    if rest.is_empty() {
+        return NoJson::Before;
+    }
     // A character that would be cut in two is left out.
     let front = rest.get(..SHOWN_BYTES).unwrap_or(rest);
     match text_at(front) {

@@ -40,7 +40,7 @@ fn explain_name(
     }
 }
 
-/// Explains a name that is no class.
+/// Explains a name that no class has, and that has to be the name of a class.
 fn explain_class(
     alloc: Global,
     out: &mut String,
@@ -51,7 +51,7 @@ fn explain_class(
     explain_name(alloc, out, at, name, "class", names.as_slice())
 }
 
-/// Explains a name that is no data type and no enumeration.
+/// Explains a name that no data type and no enumeration has, and that has to be the name of a data type or an enumeration.
 fn explain_data_type(
     alloc: Global,
     out: &mut String,
@@ -74,7 +74,7 @@ fn explain_data_type(
     }
 }
 
-/// The first of a class's supertypes that names no class.
+/// The first name among a class's direct supertypes that no class has; `None` if all are names of classes.
 fn lost_super(raw: &RawMeta, c: usize) -> Option<&str> {
     for name in class_at(raw, c)?.supers.as_slice() {
         if class_named(raw, name.as_str()).is_none() {
@@ -84,7 +84,7 @@ fn lost_super(raw: &RawMeta, c: usize) -> Option<&str> {
     None
 }
 
-/// Explains a supertype that is no class.
+/// Explains the first name among the direct supertypes of a class that no class has.
 pub(crate) fn explain_super(
     alloc: Global,
     out: &mut String,
@@ -97,7 +97,8 @@ pub(crate) fn explain_super(
     }
 }
 
-/// Explains the type of a feature: the type of an attribute is no data type and no enumeration, or the type of a reference is no class.
+/// Explains what is wrong with the type of a feature. The feature is an attribute whose type is no data type and no enumeration, or a
+/// reference whose type is no class.
 pub(crate) fn explain_type(
     alloc: Global,
     out: &mut String,

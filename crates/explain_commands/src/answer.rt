@@ -1,9 +1,9 @@
-//! The meaning of the first line of an answer.
+//! What the answer to a line of a script says.
 use mm_types::integers::natural_of;
 use mm_types::{DocFault, Refused};
 use std::str;
 
-/// The meaning of the first line of an answer.
+/// What the answer to a line of a script says.
 #[derive(Drop)]
 pub(crate) enum Printed {
     /// The answer of a bad line.
@@ -14,9 +14,9 @@ pub(crate) enum Printed {
     Resource(u32),
     /// An object by its number.
     Object(u32),
-    /// How many objects a document made.
+    /// How many objects a load made.
     Loaded(u32),
-    /// Any other answer, or none.
+    /// Any other answer, or no answer.
     Other,
 }
 
@@ -67,7 +67,7 @@ const REFUSALS: [Refused; 27] = [
     Refused::Unmatched,
 ];
 
-/// The cause that has this name.
+/// The cause with the name `name`; `None` if no cause has it.
 fn cause_named(name: &str) -> Option<DocFault> {
     for cause in CAUSES.iter() {
         if cause.name() == name {
@@ -77,7 +77,7 @@ fn cause_named(name: &str) -> Option<DocFault> {
     None
 }
 
-/// The refusal that has this name.
+/// The refusal with the name `name`, if it is one of `REFUSALS`; otherwise `None`.
 fn refusal_named(name: &str) -> Option<Refused> {
     for refused in REFUSALS.iter() {
         if refused.name() == name {
@@ -87,8 +87,9 @@ fn refusal_named(name: &str) -> Option<Refused> {
     None
 }
 
-/// The refusal that `words` give: the words that an answer has after the word `refused`. The last word is the name of the refusal or, if a
-/// document is refused, the name of the cause. `None` if no refusal or no cause has this name.
+/// The refusal in `words`, the words that come after `refused` in an answer, as `8 TYPE` or `18 DOCUMENT 4 CLASS`. The last word is the
+/// name of the refusal or, if a document is refused, the name of the cause. `None` if `words` is one word, or if no refusal or no cause has
+/// the name.
 fn refusal_in(words: &str) -> Option<Refused> {
     let (front, name) = words.rsplit_once(' ')?;
     if front.starts_with("18 ") {
@@ -98,7 +99,7 @@ fn refusal_in(words: &str) -> Option<Refused> {
     }
 }
 
-/// The meaning of an answer that begins with `refused` or `loaded`, followed by a refusal or a number; `None` for any other answer.
+/// What the answer `line` says, if it is `refused` and a refusal, or `loaded` and a number; `None` for any other answer.
 fn worded(line: &str) -> Option<Printed> {
     let (word, rest) = line.split_once(' ')?;
     match word {
@@ -108,7 +109,7 @@ fn worded(line: &str) -> Option<Printed> {
     }
 }
 
-/// The meaning of an answer that is a mark and a number, as `#0` or `r0`; `None` for any other answer.
+/// What the answer `line` says, if it is the number of an object or of a resource, as `#0` or `r0`; `None` for any other answer.
 fn marked(line: &str) -> Option<Printed> {
     if let Some(number) = line.strip_prefix('#') {
         return Some(Printed::Object(natural_of(number)?));
@@ -116,7 +117,7 @@ fn marked(line: &str) -> Option<Printed> {
     Some(Printed::Resource(natural_of(line.strip_prefix('r')?)?))
 }
 
-/// The meaning of the first line of an answer.
+/// What the answer to a line of a script says; `text` is all that the line printed, and the answer is the first line of `text`.
 pub(crate) fn printed_as(text: &[u8]) -> Printed {
     let Ok(text) = str::from_utf8(text) else {
         return Printed::Other;

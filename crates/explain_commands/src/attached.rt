@@ -15,7 +15,7 @@ fn adapter_in(form: &Form<'_>) -> Option<AdapterNo> {
 }
 
 impl<L: LinkStore, A: Adapter> Scene<'_, L, A> {
-    /// Explains an adapter that doesn't exist, or that is not attached.
+    /// Explains that the script has no adapter of the number that a line names, or that this adapter is not attached.
     pub(crate) fn explain_no_adapter(&self, out: &mut String, form: &Form<'_>) -> Written {
         let prefix = self.prefix;
         let Some(AdapterNo(number)) = adapter_in(form) else {
@@ -34,7 +34,7 @@ impl<L: LinkStore, A: Adapter> Scene<'_, L, A> {
         )
     }
 
-    /// Explains an adapter that is attached already.
+    /// Explains that the adapter that a line names is attached already.
     pub(crate) fn explain_taken(&self, out: &mut String, form: &Form<'_>) -> Written {
         let prefix = self.prefix;
         match adapter_in(form) {
@@ -46,8 +46,8 @@ impl<L: LinkStore, A: Adapter> Scene<'_, L, A> {
         }
     }
 
-    /// The attached adapter that got the most notifications, and how many it got. If several adapters got as many, it is the one with the
-    /// highest number. `None` if no adapter is attached.
+    /// The number of the attached adapter with the highest count of notifications, and this count. If several adapters have this count, the
+    /// highest of their numbers. `None` if no adapter is attached.
     fn fullest(&self) -> Option<(u32, u64)> {
         let mut found = None;
         let mut most = 0;
@@ -62,8 +62,8 @@ impl<L: LinkStore, A: Adapter> Scene<'_, L, A> {
         found
     }
 
-    /// Explains that an adapter can't count the notifications that it would get. If the line names no adapter, the explanation names the
-    /// attached adapter that got the most notifications.
+    /// Explains that an adapter can't count the notifications that it would get, and then a last one from each of its targets. If the line
+    /// names no adapter, the explanation names the attached adapter with the highest count of notifications.
     pub(crate) fn explain_full(&self, out: &mut String, form: &Form<'_>) -> Written {
         let prefix = self.prefix;
         if let Some(AdapterNo(number)) = adapter_in(form) {

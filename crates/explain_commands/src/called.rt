@@ -16,7 +16,8 @@ pub(crate) const SHOWN_BYTES: usize = 60;
 pub(crate) const URI_BYTES: usize = 200;
 
 impl<'s, L: LinkStore, A: Adapter> Scene<'s, L, A> {
-    /// The name of an object: the text of its feature `name`; `None` if the object has no text there.
+    /// The name of an object of the class `class`: the text of the object's feature `name`. `None` if the class has no such feature, or if
+    /// the value of the feature is no text.
     fn name_of(&self, object: ObjectNo, class: ClassNo) -> Option<&'s str> {
         let repository = self.repository;
         let feature = repository.meta().feature_by_name(class, "name")?;
@@ -28,8 +29,8 @@ impl<'s, L: LinkStore, A: Adapter> Scene<'s, L, A> {
 }
 
 impl<L: LinkStore, A: Adapter> Scene<'_, L, A> {
-    /// An object with its class and its name, as `#3 (Book "Emma")`. Without the name, as `#3 (Book)`, if the object has no text as `name`;
-    /// only the number, as `#3`, if there is no such object.
+    /// An object with its class and at most 60 bytes of its name, as `#3 (Book "Emma")`. Without the name, as `#3 (Book)`, if the object
+    /// has no text as `name`; only the number, as `#3`, if there is no such object.
     pub(crate) fn object_called(&self, object: ObjectNo) -> Result<String, AllocError> {
         let number = object.0;
         let Ok(class) = self.repository.e_class(object) else {
@@ -60,7 +61,7 @@ impl<L: LinkStore, A: Adapter> Scene<'_, L, A> {
         format!(in self.alloc; "{name} of {node}")
     }
 
-    /// A feature of a node's class, as `tags of Book`.
+    /// A feature of a node's class, as `tags of Book`; for a feature of a resource `contents of a resource`.
     pub(crate) fn feature_called(&self, end: End) -> Result<String, AllocError> {
         let meta = self.repository.meta();
         let name = feature_name(meta, end.feature);
@@ -74,7 +75,7 @@ impl<L: LinkStore, A: Adapter> Scene<'_, L, A> {
     }
 
     /// A value as it is written in a line, with two exceptions. A text is shown with at most 60 bytes, and a character that can't be
-    /// printed is shown as its number, as in `\u{1b}`. An object is shown with its class and its name.
+    /// printed is shown as an escape, as `\u{1b}`. An object is shown with its class and its name.
     pub(crate) fn value_called(&self, value: &WrittenValue<'_>) -> Result<String, AllocError> {
         match value {
             WrittenValue::Null => format!(in self.alloc; "null"),

@@ -1,4 +1,4 @@
-//! Follows the lines of a script while it runs, and comments on them.
+//! Follows the lines of a script while the script runs, and comments on the lines.
 use crate::answer::{Printed, printed_as};
 use crate::resources::resource_of;
 use crate::scene::Scene;
@@ -15,9 +15,10 @@ use web_uris::{UriFault, joined};
 /// Which lines of a script are commented on.
 #[derive(Clone, Copy)]
 pub struct Talk {
-    /// Whether each bad line and each refusal is explained.
+    /// Whether each bad line is explained, and each refusal other than `Memory`.
     pub explains: bool,
-    /// Whether a person types the lines. If so, a comment says what to type instead of `help`, `quit` and `exit`.
+    /// Whether a person types the lines. If so, the comment on a line `help`, `quit` or `exit` is no explanation, but says what to type
+    /// instead.
     pub guides: bool,
 }
 
@@ -26,7 +27,7 @@ pub struct Talk {
 pub struct Commentary {
     alloc: Global,
     talk: Talk,
-    /// The number of the last adapter that a line can attach.
+    /// The highest number of an adapter that a line can attach.
     adapters: u32,
     /// The number of the last line that was run, counted from 1; 0 before the first line.
     number: u64,
@@ -36,7 +37,7 @@ pub struct Commentary {
     uris: Vec<String>,
     /// The comments that were not taken yet.
     said: String,
-    /// Whether memory was refused for a URI or a comment. Then a URI may be missing, and no further line is commented on.
+    /// Whether memory was refused for a URI or a comment. If so, a URI may be missing, and no further line is commented on.
     is_lost: bool,
 }
 
@@ -56,13 +57,13 @@ impl Commentary {
         }
     }
 
-    /// Notes that the next line is the first line of the script. The lines of a journal, if there is one, were run before it and are not
+    /// Notes that the next line is the first line of the script. All lines that were run before are lines of a journal, and are not
     /// counted.
     pub fn begin(&mut self) {
         self.number = 0;
     }
 
-    /// The resource whose URI a text gives; the text is normalised first.
+    /// The resource that has the URI `text`; `text` is normalised first.
     ///
     /// Refused, the first that applies: `Memory`, also if memory was refused before for a URI or a comment; `BadUri`; `NoResource`.
     pub fn resource_named(&self, text: &str) -> Result<ResourceNo, Refused> {
@@ -84,7 +85,8 @@ impl Commentary {
         mem::replace(&mut self.said, String::new(self.alloc))
     }
 
-    /// Records a line that was run, with its output. Explains the line if it is to be explained.
+    /// Counts a line that was run, and notes from its output `printed` what the line made. Comments on the line if `Talk` asks for a
+    /// comment. If memory was refused before for a URI or a comment, the line is counted, and nothing else is done.
     pub fn line_was_run<L: LinkStore, A: Adapter>(
         &mut self,
         repository: &Repository<L, A>,
@@ -133,7 +135,7 @@ impl Commentary {
         }
     }
 
-    /// Notes the URI that a text gives.
+    /// Notes the URI of a resource; `text` is the URI, and is normalised first.
     fn note_uri(&mut self, text: &str) -> Result<(), AllocError> {
         match joined(self.alloc, "", text) {
             Ok(uri) => Ok(self.uris.push(uri)?),
@@ -151,7 +153,7 @@ impl Commentary {
         }
     }
 
-    /// Says what is wrong with a bad line, or what to type in its place.
+    /// Says what is wrong with a bad line, or what to type in its place, if `Talk` asks for it.
     fn speak_of_bad(&mut self, line: &[u8]) -> Result<(), AllocError> {
         if self.talk.guides
             && let Some(advice) = advice_for(line)
@@ -179,8 +181,8 @@ impl Commentary {
         self.said.push_str(text.as_str())
     }
 
-    /// Explains why the command of a form was refused, in lines that begin with the prefix. The repository has to be as it was when the
-    /// command was refused. The explanation of the refusal `Memory` is empty. Fails only if memory is refused.
+    /// The explanation of why the command with the form `form` was refused, in lines that begin with `prefix`. The repository has to be as
+    /// it was when the command was refused. The explanation of the refusal `Memory` is empty. Fails only if memory is refused.
     pub fn explained<L: LinkStore, A: Adapter>(
         &self,
         repository: &Repository<L, A>,
@@ -235,7 +237,7 @@ fn uri_of(uris: &[String], resource: ResourceNo) -> &str {
     }
 }
 
-/// The advice for a person who types `help`, `quit` or `exit`, which are no commands; `None` for any other line.
+/// The advice for a person who types a line that is just `help`, `quit` or `exit`, which are no commands; `None` for any other line.
 fn advice_for(line: &[u8]) -> Option<&'static str> {
     match line.trim_ascii() {
         b"help" => Some("mmrepo --help shows what can be typed; Ctrl-D ends the program"),

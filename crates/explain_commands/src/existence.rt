@@ -7,8 +7,8 @@ use mm_types::{Node, ObjectNo};
 use script_lines::Form;
 
 impl<L: LinkStore, A: Adapter> Scene<'_, L, A> {
-    /// The object that a line names and that doesn't exist: the node, if it is an object that doesn't exist, and otherwise the object of
-    /// the value.
+    /// The object that doesn't exist, among the node `node` and the value that a refused line names: `node`, if it is an object that
+    /// doesn't exist, and otherwise the value.
     fn lost_object(&self, form: &Form<'_>, node: Option<Node>) -> Option<ObjectNo> {
         match node {
             Some(Node::Object(object)) if self.repository.e_class(object).is_err() => Some(object),
@@ -16,7 +16,7 @@ impl<L: LinkStore, A: Adapter> Scene<'_, L, A> {
         }
     }
 
-    /// Explains an object that doesn't exist: it was destroyed, or was never made.
+    /// Explains that an object doesn't exist: it was destroyed, or was never made.
     pub(crate) fn explain_no_object(
         &self,
         out: &mut String,
@@ -41,7 +41,7 @@ impl<L: LinkStore, A: Adapter> Scene<'_, L, A> {
         }
     }
 
-    /// Explains a resource that doesn't exist, since it was never made.
+    /// Explains that a resource doesn't exist: it was never made.
     pub(crate) fn explain_no_resource(&self, out: &mut String, named: &Named<'_>) -> Written {
         let prefix = self.prefix;
         let Some(Node::Resource(resource)) = named.node else {

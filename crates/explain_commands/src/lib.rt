@@ -1,8 +1,8 @@
 //! Why a command of a script is refused, in words for a reader.
 //!
-//! `Commentary` is called after each line was run, with the line, its output, and the repository as the line left it. A refused command
-//! changes nothing, so the repository still has all that caused the refusal. No contract determines the text of an explanation. It is
-//! proved that the functions are safe and terminate; the cases of the program show the texts.
+//! `Commentary::line_was_run` is called after each line was run, with the line, its output, and the repository as the line left it. A
+//! refused command changes nothing, so the repository still has all that caused the refusal. No contract determines the text of an
+//! explanation. It is proved that the functions are safe and terminate; the cases of the program show the texts.
 #![tactic(auto)]
 
 mod answer;

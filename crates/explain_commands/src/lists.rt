@@ -9,16 +9,16 @@ use script_lines::{FeatureForm, Form, WrittenValue};
 use script_output::literal_name;
 use std::alloc::{AllocError, Global};
 
-/// An index that a line gives and that is too high, and the greatest index that the command accepts instead. `last` is `None` if the
-/// command accepts no index.
+/// An index that a line gives, and that is too high. `last` is the greatest index that the command accepts; `None` if the command accepts
+/// no index, since the list is empty.
 #[derive(Clone, Copy)]
 struct TooHigh {
     index: u32,
     last: Option<u32>,
 }
 
-/// `index`, with the last index that the command accepts, if `index` is too high; otherwise `None`. The command accepts the indexes below
-/// `count`.
+/// If `index` is too high for a command that accepts the indexes below `count`: `index`, with the greatest index that the command accepts.
+/// Otherwise `None`.
 fn above(index: u32, count: u32) -> Option<TooHigh> {
     if index < count {
         return None;
@@ -53,8 +53,8 @@ fn values_called(alloc: Global, len: u32) -> Result<String, AllocError> {
 }
 
 impl<L: LinkStore, A: Adapter> Scene<'_, L, A> {
-    /// Explains an index that a line gives for a single feature. Of the commands that name an index, only `resolve` accepts a single
-    /// feature.
+    /// Explains why the index that a `resolve` line gives for a single feature is refused: the index is 0 and the value is null, or the
+    /// index is above 0. No other command that names an index accepts a single feature. `called` is the feature in words.
     fn explain_single(&self, out: &mut String, form: &Form<'_>, called: &str) -> Written {
         let prefix = self.prefix;
         match resolved_index(form) {
@@ -63,7 +63,8 @@ impl<L: LinkStore, A: Adapter> Scene<'_, L, A> {
         }
     }
 
-    /// Explains an index that is too high.
+    /// Explains why the index that a line gives for a feature is refused. If the feature is a list, the index is too high; `explain_single`
+    /// explains the refusal at a single feature.
     pub(crate) fn explain_index(
         &self,
         out: &mut String,
@@ -120,7 +121,7 @@ impl<L: LinkStore, A: Adapter> Scene<'_, L, A> {
         }
     }
 
-    /// The index of a value in a list.
+    /// The first index at which a list has the value `written`; `None` if the list does not have this value.
     fn index_of(&self, end: End, written: &WrittenValue<'_>) -> Option<u32> {
         for index in 0..self.len(end) {
             let found = self
@@ -134,7 +135,7 @@ impl<L: LinkStore, A: Adapter> Scene<'_, L, A> {
         None
     }
 
-    /// Explains a value that a list has already.
+    /// Explains that a list has the value `value` already.
     fn explain_repeated(&self, out: &mut String, end: End, value: &WrittenValue<'_>) -> Written {
         let prefix = self.prefix;
         let Some(index) = self.index_of(end, value) else {
@@ -148,7 +149,7 @@ impl<L: LinkStore, A: Adapter> Scene<'_, L, A> {
         )
     }
 
-    /// Explains a value that a list has already: the value that the line adds, or the object at the address of the proxy that the line
+    /// Explains that a list has a value already: the value that the line adds, or the object at the address of the proxy that the line
     /// resolves.
     pub(crate) fn explain_duplicate(&self, out: &mut String, form: &Form<'_>, end: End) -> Written {
         match (resolved_index(form), value_in(form)) {
@@ -164,14 +165,14 @@ impl<L: LinkStore, A: Adapter> Scene<'_, L, A> {
         }
     }
 
-    /// Whether a feature of a node is full.
+    /// Whether the list at an end is full: it has as many values as its upper bound.
     fn is_full(&self, end: End) -> bool {
         let meta = self.repository.meta();
         meta.is_full(end.feature, self.len(end))
     }
 
-    /// The full end among the two ends to which a line adds a value: the end that the line names or, if that end is not full, the opposite
-    /// end.
+    /// The end that is full, of the two ends to which a line adds a value: `end`, which the line names, or, if `end` is not full, the
+    /// opposite end. `None` if neither end is full.
     fn full_end(&self, form: &Form<'_>, end: End) -> Option<End> {
         if self.is_full(end) {
             return Some(end);
@@ -182,7 +183,7 @@ impl<L: LinkStore, A: Adapter> Scene<'_, L, A> {
         if self.is_full(far) { Some(far) } else { None }
     }
 
-    /// Explains a list that is full, at the end that the line names or at the opposite end.
+    /// Explains that a list is full: the list at `end`, which the line names, or the list at the opposite end.
     pub(crate) fn explain_bound(&self, out: &mut String, form: &Form<'_>, end: End) -> Written {
         let prefix = self.prefix;
         let Some(end) = self.full_end(form, end) else {

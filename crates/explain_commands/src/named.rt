@@ -2,7 +2,7 @@
 use mm_types::{EndRead, Node, ObjectNo, Read};
 use script_lines::{FeatureForm, Form, WrittenValue};
 
-/// What a line names: its verb, a node, and a feature of the node.
+/// The verb of a line, the node that the line names, and the feature of this node that the line names.
 #[derive(Clone, Copy)]
 pub(crate) struct Named<'a> {
     pub(crate) verb: &'static str,
@@ -36,7 +36,7 @@ fn feature_in<'a>(form: &Form<'a>) -> Option<&'a str> {
     }
 }
 
-/// The object that a line names first, if the line can't name a resource in its place.
+/// The object that a line names, if the line is `delete` or asks about one object, as `class` does; `None` for any other line.
 fn object_in(form: &Form<'_>) -> Option<ObjectNo> {
     match form {
         Form::Delete(object) | Form::Read(Read::Of(object, _)) => Some(*object),
@@ -44,7 +44,7 @@ fn object_in(form: &Form<'_>) -> Option<ObjectNo> {
     }
 }
 
-/// The node that a line names first.
+/// The node that a line names; an object that the line names as a value does not count. `None` if the line names no node.
 fn node_in(form: &Form<'_>) -> Option<Node> {
     match form {
         Form::At { node, .. } => Some(*node),

@@ -8,7 +8,7 @@ use links::LinkStore;
 use mm_types::Node;
 
 impl<L: LinkStore, A: Adapter> Scene<'_, L, A> {
-    /// Explains a name that is no class.
+    /// Explains that `name` is the name of no class.
     pub(crate) fn explain_no_class(&self, out: &mut String, name: &str) -> Written {
         let prefix = self.prefix;
         let names = class_names(self.alloc, self.repository.meta())?;
@@ -22,7 +22,7 @@ impl<L: LinkStore, A: Adapter> Scene<'_, L, A> {
         }
     }
 
-    /// Explains a class that is abstract.
+    /// Explains that the class with the name `name` is abstract.
     pub(crate) fn explain_abstract(&self, out: &mut String, name: &str) -> Written {
         let prefix = self.prefix;
         let meta = self.repository.meta();
@@ -69,7 +69,7 @@ impl<L: LinkStore, A: Adapter> Scene<'_, L, A> {
         }
     }
 
-    /// Explains a name that is no feature of a node's class.
+    /// Explains that the feature name in a line is no feature of the node's class or, if the node is a resource, is not `contents`.
     pub(crate) fn explain_no_feature(&self, out: &mut String, named: &Named<'_>) -> Written {
         let (Some(node), Some(name)) = (named.node, named.feature) else {
             return Ok(());

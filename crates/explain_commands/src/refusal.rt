@@ -1,4 +1,4 @@
-//! What is said of a refusal.
+//! Which explanation each refusal gets.
 use crate::named::{Named, named_in, resolved_index};
 use crate::scene::{Scene, Written};
 use adapters::Adapter;
@@ -7,7 +7,7 @@ use mm_types::{End, Node, Refused};
 use script_lines::Form;
 
 impl<L: LinkStore, A: Adapter> Scene<'_, L, A> {
-    /// Explains the refusals `NoClass` and `Abstract` of a line that makes an object.
+    /// Explains the refusals `NoClass` and `Abstract` of a `new` line.
     fn explain_class(&self, out: &mut String, form: &Form<'_>, refused: Refused) -> Written {
         match (form, refused) {
             (Form::New { class }, Refused::NoClass) => self.explain_no_class(out, class.as_str()),
@@ -36,7 +36,7 @@ impl<L: LinkStore, A: Adapter> Scene<'_, L, A> {
         }
     }
 
-    /// Explains a refusal of a line that names a node and one of the features of the node's class.
+    /// Explains a refusal of a line that names a node and one of the features of the node.
     fn explain_end(
         &self,
         out: &mut String,
@@ -74,8 +74,8 @@ impl<L: LinkStore, A: Adapter> Scene<'_, L, A> {
         }
     }
 
-    /// Adds a line that says why a line of a script was refused; the repository has to be as it was when the line was refused. Adds nothing
-    /// for the refusals `Document` and `Memory`. Fails only if memory is refused.
+    /// Adds to `out` one line that says why a command was refused; `form` is the form of the command. The repository has to be as it was
+    /// when the command was refused. Adds nothing for the refusals `Document` and `Memory`. Fails only if memory is refused.
     pub(crate) fn explain_refusal(
         &self,
         out: &mut String,

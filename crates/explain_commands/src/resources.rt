@@ -15,7 +15,7 @@ fn is_scheme_byte(byte: u8) -> bool {
     byte.is_ascii_alphanumeric() || matches!(byte, b'+' | b'-' | b'.')
 }
 
-/// The scheme of a URI; a relative reference has none.
+/// The scheme with which a text begins; `None` if the text begins with no scheme, as a relative reference does.
 fn scheme_of(text: &str) -> Option<&str> {
     let (scheme, _) = text.split_once(':')?;
     let bytes = scheme.as_bytes();
@@ -57,7 +57,8 @@ impl<L: LinkStore, A: Adapter> Scene<'_, L, A> {
         }
     }
 
-    /// Explains the text of a `resource` line that can't be the URI of a resource, or the text of an `at` line that is no address.
+    /// Explains why the text of a `resource` line can't be the URI of a resource, or that the text of an `at` line is no address, since it
+    /// has no `#`.
     pub(crate) fn explain_bad_uri(&self, out: &mut String, form: &Form<'_>) -> Written {
         let prefix = self.prefix;
         match form {
@@ -74,7 +75,8 @@ impl<L: LinkStore, A: Adapter> Scene<'_, L, A> {
     }
 }
 
-/// The resource that has the URI `uri`; `None` if no resource has it. `uris` has the URIs of all resources in the order of their numbers.
+/// The resource that has the URI `uri`; `None` if no resource has it. `uris` has the URIs of all resources, in the order of the resources'
+/// numbers.
 pub(crate) fn resource_of(uris: &[String], uri: &str) -> Option<ResourceNo> {
     for (number, other) in uris.iter().enumerate() {
         if other.as_str() == uri {
@@ -85,7 +87,7 @@ pub(crate) fn resource_of(uris: &[String], uri: &str) -> Option<ResourceNo> {
 }
 
 impl<L: LinkStore, A: Adapter> Scene<'_, L, A> {
-    /// Explains a URI that a resource has already.
+    /// Explains that a resource has the URI of a `resource` line already.
     pub(crate) fn explain_exists(&self, out: &mut String, form: &Form<'_>) -> Written {
         let prefix = self.prefix;
         let Form::Resource(text) = form else {
@@ -109,7 +111,7 @@ impl<L: LinkStore, A: Adapter> Scene<'_, L, A> {
         }
     }
 
-    /// Explains a resource that is not empty.
+    /// Explains that a resource is not empty.
     pub(crate) fn explain_not_empty(&self, out: &mut String, resource: ResourceNo) -> Written {
         let prefix = self.prefix;
         let number = resource.0;

@@ -19,7 +19,7 @@ pub(crate) struct Scene<'s, L: LinkStore, A: Adapter> {
     pub(crate) uris: &'s [String],
     /// How many objects were made.
     pub(crate) objects: u64,
-    /// The number of the last adapter that a script can attach.
+    /// The highest number of an adapter that a script can attach.
     pub(crate) adapters: u32,
 }
 
@@ -37,7 +37,7 @@ impl<L: LinkStore, A: Adapter> Scene<'_, L, A> {
         }
     }
 
-    /// How many values a list has; 0 if there is no such list.
+    /// How many values the list at an end has; 0 if the end has no list.
     pub(crate) fn len(&self, end: End) -> u32 {
         self.repository.list_len(end.node, end.feature).unwrap_or(0)
     }

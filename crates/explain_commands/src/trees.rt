@@ -9,7 +9,7 @@ use script_lines::Form;
 use std::alloc::AllocError;
 use std::collections::VecDeque;
 
-/// An object of a resource, and its level there.
+/// An object below a resource, and its level; the roots of the resource are at level 1.
 #[derive(Clone, Copy)]
 struct Placed {
     object: ObjectNo,
@@ -21,12 +21,12 @@ struct Placed {
 enum Sought {
     /// An object that refers to an object in no resource.
     Dangling,
-    /// An object below level `limits::LEVELS`, the last level that a document can have.
+    /// An object at a deeper level than `limits::LEVELS`, the deepest level that a document can have.
     TooDeep,
 }
 
 impl<L: LinkStore, A: Adapter> Scene<'_, L, A> {
-    /// Explains an object that would be put below itself.
+    /// Explains that an object would be put into itself, or into an object below it.
     pub(crate) fn explain_recursive(&self, out: &mut String, form: &Form<'_>, end: End) -> Written {
         let prefix = self.prefix;
         let (Node::Object(near), Some(far)) = (end.node, object_value(form)) else {
@@ -53,7 +53,7 @@ impl<L: LinkStore, A: Adapter> Scene<'_, L, A> {
         matches!(self.repository.e_resource(object), Ok(None))
     }
 
-    /// The first value at an end that is an object in no resource.
+    /// Of the values at an end, the first that is an object in no resource; `None` if there is none.
     fn outside_at(&self, end: End) -> Option<ObjectNo> {
         if let Ok(found) = self.repository.value(end.node, end.feature) {
             return match found {
@@ -90,7 +90,7 @@ impl<L: LinkStore, A: Adapter> Scene<'_, L, A> {
         None
     }
 
-    /// Adds the objects that a node contains.
+    /// Adds to `queue` the objects that a node contains directly, each with the level `level`.
     fn add_contents(&self, queue: &mut VecDeque<Placed>, node: Node, level: usize) -> Written {
         let Ok(contents) = self.repository.e_contents(node) else {
             return Err(AllocError);
@@ -174,7 +174,7 @@ impl<L: LinkStore, A: Adapter> Scene<'_, L, A> {
         }
     }
 
-    /// Explains the first object of a resource that is below level `limits::LEVELS`.
+    /// Explains which object of a resource is at a deeper level than `limits::LEVELS`: the first such object, level by level.
     pub(crate) fn explain_too_deep(&self, out: &mut String, node: Node) -> Written {
         self.explain_first(out, node, Sought::TooDeep)
     }

@@ -11,7 +11,7 @@ use script_output::enum_of;
 use std::alloc::AllocError;
 
 impl<L: LinkStore, A: Adapter> Scene<'_, L, A> {
-    /// Explains a list in a command that takes a single feature, or a single feature in a command that takes a list.
+    /// Explains that a line names a list in a command that takes a single feature, or a single feature in a command that takes a list.
     pub(crate) fn explain_bounds(&self, out: &mut String, named: &Named<'_>, end: End) -> Written {
         let prefix = self.prefix;
         let verb = named.verb;
@@ -94,7 +94,7 @@ impl<'s, L: LinkStore, A: Adapter> Scene<'s, L, A> {
 }
 
 impl<L: LinkStore, A: Adapter> Scene<'_, L, A> {
-    /// Explains a value that is not of the type of a feature.
+    /// Explains that the value that a line names is not of the feature's type.
     fn explain_value(&self, out: &mut String, end: End, value: &WrittenValue<'_>) -> Written {
         let prefix = self.prefix;
         let called = self.feature_called(end)?;
@@ -107,7 +107,7 @@ impl<L: LinkStore, A: Adapter> Scene<'_, L, A> {
         }
     }
 
-    /// Explains why a proxy can't be resolved: the feature has no proxies, or the proxy leads to an object of a wrong class.
+    /// Explains why `resolve` is refused with `WrongType`: the feature is an attribute, or the proxy leads to an object of a wrong class.
     fn explain_proxy(&self, out: &mut String, end: End, index: u32) -> Written {
         let prefix = self.prefix;
         let called = self.feature_called(end)?;
@@ -128,7 +128,7 @@ impl<L: LinkStore, A: Adapter> Scene<'_, L, A> {
         )
     }
 
-    /// Explains the refusal `WrongType`, of a value that a line names or of a proxy that a line resolves.
+    /// Explains the refusal `WrongType` of a line that names a value, or of a `resolve` line.
     pub(crate) fn explain_type(&self, out: &mut String, form: &Form<'_>, end: End) -> Written {
         match (resolved_index(form), value_in(form)) {
             (_, Some(value)) => self.explain_value(out, end, value),
@@ -148,7 +148,7 @@ fn length_in(form: &Form<'_>) -> usize {
 }
 
 impl<L: LinkStore, A: Adapter> Scene<'_, L, A> {
-    /// Explains a text that is too long, or a text that gives a URI which is too long.
+    /// Explains that the text of a line is too long, or that the URI that the text gives is too long.
     pub(crate) fn explain_length(&self, out: &mut String, form: &Form<'_>) -> Written {
         let prefix = self.prefix;
         let most = limits::TEXT_BYTES;

@@ -10,7 +10,7 @@ use std::alloc::AllocError;
 use web_uris::{Step, parse, split_address};
 
 impl<'s, L: LinkStore, A: Adapter> Scene<'s, L, A> {
-    /// The value of a reference at an index. For a single reference it is the value, whatever the index.
+    /// The value at an index of a reference; for a single reference its value, whatever the index. `None` if no value is there.
     fn found_at(&self, end: End, index: u32) -> Option<Found<'s>> {
         let repository = self.repository;
         if repository.meta().is_single(end.feature) {
@@ -35,13 +35,13 @@ impl<'s, L: LinkStore, A: Adapter> Scene<'s, L, A> {
 }
 
 impl<L: LinkStore, A: Adapter> Scene<'_, L, A> {
-    /// The object at the address of a proxy.
+    /// The object at the address of the proxy at an index of a reference; `None` if no proxy is there, or if no object is at the address.
     pub(crate) fn led_to(&self, end: End, index: u32) -> Option<ObjectNo> {
         let address = self.address_at(end, index)?;
         self.repository.object_at(address).ok()?
     }
 
-    /// Explains a value that is no proxy.
+    /// Explains that the value at an index of a reference is no proxy.
     pub(crate) fn explain_not_proxy(&self, out: &mut String, end: End, index: u32) -> Written {
         let prefix = self.prefix;
         let called = self.end_called(end)?;
@@ -57,7 +57,7 @@ impl<L: LinkStore, A: Adapter> Scene<'_, L, A> {
         }
     }
 
-    /// Explains a proxy whose URI no resource has.
+    /// Explains that no resource has the URI of a proxy.
     pub(crate) fn explain_unloaded(&self, out: &mut String, end: End, index: u32) -> Written {
         let prefix = self.prefix;
         let Some((uri, _)) = self.parts_at(end, index) else {
@@ -71,7 +71,7 @@ impl<L: LinkStore, A: Adapter> Scene<'_, L, A> {
     }
 }
 
-/// How far a path was followed: the address that was reached, and the object there.
+/// How far the path of a fragment was followed: the address that was reached, and the object there.
 #[derive(Drop)]
 struct Way {
     address: String,
@@ -79,7 +79,7 @@ struct Way {
 }
 
 impl<L: LinkStore, A: Adapter> Scene<'_, L, A> {
-    /// The address and the object that one more step reaches; `None` if the step finds nothing.
+    /// The address and the object that are reached from `way` by one more step of the path; `None` if the step finds nothing.
     fn gone(&self, way: &Way, step: &Step) -> Result<Option<Way>, AllocError> {
         let name = step.name.as_str();
         let before = way.address.as_str();
@@ -93,7 +93,7 @@ impl<L: LinkStore, A: Adapter> Scene<'_, L, A> {
         }
     }
 
-    /// Explains a step that finds nothing.
+    /// Explains that a step of a path finds nothing below `object`, the object that was reached before the step.
     fn explain_step(&self, out: &mut String, step: &Step, object: ObjectNo) -> Written {
         let prefix = self.prefix;
         let name = step.name.as_str();
@@ -110,7 +110,7 @@ impl<L: LinkStore, A: Adapter> Scene<'_, L, A> {
         }
     }
 
-    /// Explains which step of a path is the first that finds nothing.
+    /// Explains which step of a path finds nothing; `root` is the object at which the path begins.
     fn explain_steps(&self, out: &mut String, root: Way, steps: &[Step]) -> Written {
         let mut way = root;
         for step in steps {
@@ -144,7 +144,7 @@ impl<L: LinkStore, A: Adapter> Scene<'_, L, A> {
         }
     }
 
-    /// Explains a proxy without an object at its address.
+    /// Explains that no object is at the address of a proxy.
     pub(crate) fn explain_unresolved(&self, out: &mut String, end: End, index: u32) -> Written {
         match self.parts_at(end, index) {
             Some((uri, fragment)) => self.explain_nowhere(out, uri, fragment),
@@ -152,7 +152,7 @@ impl<L: LinkStore, A: Adapter> Scene<'_, L, A> {
         }
     }
 
-    /// Explains a proxy that leads to an object, if the opposite reference of that object has no proxy that leads back.
+    /// Explains that a proxy leads to an object whose opposite reference has no proxy that leads back.
     pub(crate) fn explain_unmatched(&self, out: &mut String, end: End, index: u32) -> Written {
         let prefix = self.prefix;
         let opposite = self.repository.meta().opposite(end.feature);

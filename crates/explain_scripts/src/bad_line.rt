@@ -5,7 +5,8 @@ use script_lines::words_of;
 use std::alloc::{AllocError, Global};
 use std::str;
 
-/// Adds a line if a word of a bad line is not of the kind that the word `sort` of the form asks for.
+/// Adds a line to `out` if `word`, a word of a bad line, is not of the kind that the word `sort` of the form asks for. `number` is the
+/// number of the bad line.
 fn explain_word(
     alloc: Global,
     out: &mut String,

@@ -119,7 +119,7 @@ fn explain_entry(out: &mut String, meta: &Meta, entry: &Entry<'_>) -> Result<(),
     Ok(())
 }
 
-/// Explains values that are not of their feature's type, and contents of many-valued features that are no arrays.
+/// Explains which values are not of their feature's type, and which contents of many-valued features are no arrays.
 pub(crate) fn explain_values(
     out: &mut String,
     meta: &Meta,
@@ -150,7 +150,7 @@ fn explain_bound(out: &mut String, meta: &Meta, entry: &Entry<'_>) -> Result<(),
     )
 }
 
-/// Explains lists that are too long.
+/// Explains which lists have too many values: more than their upper bounds, or more than `limits::LIST_VALUES`.
 pub(crate) fn explain_bounds(
     out: &mut String,
     meta: &Meta,

@@ -30,7 +30,7 @@ fn shown_at(text: &str, start: usize) -> &str {
     front_of(text.get(start..).unwrap_or(""), SHOWN_BYTES)
 }
 
-/// Explains text that is no JSON.
+/// Explains why the text of a document is no JSON: it begins with a byte order mark, ends within the JSON, or is no JSON from some byte on.
 fn explain_syntax(
     out: &mut String,
     refused: &RefusedDocument<'_>,
@@ -132,8 +132,9 @@ fn explain_json(
 }
 
 /// Explains why a document is refused. Adds a line for each place of the document at which the cause of the refusal applies; for `Syntax`
-/// and for `Depth` only one line. For `Bound`, a document with too many roots gets no line for them. For `Layout`, no further object is
-/// looked at once `out` has more than 4,096 bytes. Fails only if memory is refused.
+/// and for `Depth` only one line. The objects below an object that has a wrong layout or an unknown class are not looked at. For `Bound`,
+/// no line says that a document has too many roots. For `Layout`, no further object is looked at once `out` has more than 4,096 bytes.
+/// Fails only if memory is refused.
 pub fn explain_document(
     alloc: Global,
     out: &mut String,

@@ -1,4 +1,4 @@
-//! The forms of the lines of a script, and the kinds of their words.
+//! The forms of the lines of a script, and the kinds of the words in a line.
 use script_lines::{Line, parse_line};
 use std::alloc::{AllocError, Global};
 
@@ -131,7 +131,7 @@ pub(crate) fn form_of(verb: &str, count: usize) -> Option<&'static str> {
     found
 }
 
-/// All verbs.
+/// The verbs of all forms; `add` comes twice, since two forms have this verb.
 pub(crate) fn verbs(alloc: Global) -> Result<Vec<&'static str>, AllocError> {
     let mut verbs = Vec::new(alloc);
     for form in FORMS.iter() {

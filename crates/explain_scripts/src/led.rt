@@ -14,7 +14,7 @@ pub(crate) enum Led {
     Nowhere,
     /// The text leads to the part that has this number.
     Here(usize),
-    /// The text leads to this address in another resource. The address begins with the whole URI of that resource, even if the text does
+    /// The text leads into another resource, to this address. The address begins with the whole URI of that resource, even if the text does
     /// not.
     Elsewhere(String),
 }
@@ -22,7 +22,7 @@ pub(crate) enum Led {
 /// The number of each part, by the fragment of the part.
 pub(crate) type Fragments<'p> = BTreeMap<&'p str, usize>;
 
-/// The numbers of parts by their fragments.
+/// The number of each of the parts `parts`, by the fragment of the part.
 pub(crate) fn fragments_of<'p>(
     alloc: Global,
     parts: &'p [Part<'_>],
@@ -34,8 +34,8 @@ pub(crate) fn fragments_of<'p>(
     Ok(fragments)
 }
 
-/// What an address leads to; `None` if the address leads into the document itself. The address is given by two parts: `part` is the text
-/// before its `#`, or empty, and `fragment` is the text after the `#`. `uri` is the URI of the document's resource.
+/// What the text of a reference leads to; `None` if the text leads into the document itself. `part` is what the text has before its first
+/// `#`, or empty if the text has no `#`. `fragment` is the fragment in the text. `uri` is the URI of the document's resource.
 fn led_elsewhere(
     alloc: Global,
     uri: &str,

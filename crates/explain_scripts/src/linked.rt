@@ -1,5 +1,5 @@
 //! What is wrong with references: texts that lead to no object or to an object of a wrong class, references with an opposite that lead to a
-//! different resource, and references that only one end has.
+//! different resource, and links that are written at only one of their ends.
 use crate::led::{Fragments, Led, fragments_of, led_by};
 use crate::parts::{At, Entry, Part};
 use crate::written::{class_of, conforms_to, values_of};
@@ -9,7 +9,8 @@ use serde_json::Value;
 use std::alloc::{AllocError, Global};
 use std::collections::BTreeSet;
 
-/// One value of a reference without containment in a document: its place, its text, and what the text leads to.
+/// A text that a document has as a value of a reference that is no containment: its place, the number of the part and the feature of the
+/// part that have the value, and what the text leads to.
 #[derive(Drop)]
 pub(crate) struct Link<'e> {
     pub(crate) at: At<'e>,
@@ -20,7 +21,7 @@ pub(crate) struct Link<'e> {
 }
 
 impl Link<'_> {
-    /// The number of the part to which the link leads, if it leads to a part of the document.
+    /// The number of the part to which the link leads, if the link leads to a part of the document; otherwise `None`.
     fn named(&self) -> Option<usize> {
         match &self.led {
             Led::Here(number) => Some(*number),
@@ -59,7 +60,7 @@ fn add_links<'e>(
     Ok(())
 }
 
-/// The class of the objects that a reference without containment holds; `None` for any other feature.
+/// The class of the objects to which a reference that is no containment may lead; `None` for any other feature.
 fn target_of(meta: &Meta, feature: FeatureNo) -> Option<ClassNo> {
     match &meta.feature(feature)?.kind {
         Kind::Reference {
@@ -86,7 +87,7 @@ fn links_in<'e>(
 }
 
 /// The `Link`s of a document: the texts among the values of references without containment. `uri` is the URI of the document's resource,
-/// `parts` are the parts of the document, and `entries` are their contents. Fails only if memory is refused.
+/// `parts` are the parts of the document, and `entries` are the contents of the parts' features. Fails only if memory is refused.
 pub(crate) fn links_of<'e>(
     alloc: Global,
     meta: &Meta,
@@ -104,7 +105,8 @@ pub(crate) fn links_of<'e>(
     links_in(&source, entries)
 }
 
-/// Explains a reference whose text is badly written, leads nowhere, or leads to an object of a wrong class.
+/// Explains that the text of a reference is badly written, leads to no object of the document, or leads to an object of a wrong class. Adds
+/// nothing for any other text.
 fn explain_lost(
     out: &mut String,
     meta: &Meta,
@@ -149,7 +151,7 @@ fn explain_class(
     )
 }
 
-/// Explains references whose texts are badly written, lead nowhere, or lead to an object of a wrong class.
+/// Explains which references have texts that are badly written, lead to no object of the document, or lead to an object of a wrong class.
 pub(crate) fn explain_references(
     out: &mut String,
     meta: &Meta,
@@ -162,7 +164,7 @@ pub(crate) fn explain_references(
     Ok(())
 }
 
-/// Explains references that have an opposite and lead to a different resource.
+/// Explains which references have an opposite and lead to a different resource.
 pub(crate) fn explain_crosses(
     out: &mut String,
     meta: &Meta,
@@ -219,8 +221,8 @@ fn explain_one_sided(
     )
 }
 
-/// Explains references that only one end has: each has an opposite and leads to an object of the document, but this object does not name
-/// the referring object under the opposite.
+/// Explains which links are written at only one of their ends: a reference has an opposite and leads to an object of the document, and this
+/// object does not name the referring object under the opposite.
 pub(crate) fn explain_ends(
     alloc: Global,
     out: &mut String,

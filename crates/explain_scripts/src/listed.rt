@@ -1,4 +1,4 @@
-//! The names that may be written at a place.
+//! The names of classes and features, and the literals of enumerations, for a reader to choose from.
 use mm_meta::Meta;
 use mm_types::{ClassNo, FeatureNo, limits};
 use std::alloc::{AllocError, Global};
@@ -31,7 +31,7 @@ pub fn concrete_names<'m>(
     Ok(names)
 }
 
-/// The names of features.
+/// The names of the features `features`, in the same order.
 pub fn feature_names<'m>(
     alloc: Global,
     meta: &'m Meta,

@@ -53,7 +53,7 @@ impl fmt::Display for At<'_> {
 }
 
 impl Entry<'_> {
-    /// The place of the value at a position of the content.
+    /// The place of the value at an index of the content.
     pub(crate) fn at(&self, index: usize) -> At<'_> {
         At {
             path: self.path.as_str(),

@@ -9,7 +9,8 @@ use serde_json::Value;
 use std::alloc::{AllocError, Global};
 use std::collections::BTreeMap;
 
-/// Explains values that occur twice in a list of values of an attribute.
+/// Explains which of `values`, the values of an attribute, are repeated. A repeated value is explained with the index of the repetition and
+/// the index at which the value came last before.
 fn explain_equal(
     alloc: Global,
     out: &mut String,
@@ -39,9 +40,9 @@ fn unique_values<'v>(meta: &Meta, entry: &Entry<'v>) -> &'v [Value] {
     }
 }
 
-/// A link with its target. The first two numbers are the part and the feature that have the link. If the target is a part of the document,
-/// the third number is the part's number plus one, and the text is empty. Else the third number is 0, and the text is the address of the
-/// target.
+/// The part and the feature that have a link, and the target of the link. The first two numbers are those of the part and of the feature.
+/// If the target is a part of the document, the third number is the part's number plus one, and the text is empty. Else the third number is
+/// 0, and the text is the address of the target.
 type LinkKey<'l> = (usize, u32, usize, &'l str);
 
 fn target_of<'l>(link: &'l Link<'_>) -> Option<LinkKey<'l>> {
@@ -52,7 +53,7 @@ fn target_of<'l>(link: &'l Link<'_>) -> Option<LinkKey<'l>> {
     }
 }
 
-/// Explains references of one list that lead to the same object, or to the same address in another resource.
+/// Explains which references of one list lead to the same object of the document, or to the same address in another resource.
 fn explain_links(alloc: Global, out: &mut String, links: &[Link<'_>]) -> Result<(), AllocError> {
     let mut seen: BTreeMap<LinkKey<'_>, usize> = BTreeMap::new(alloc);
     for link in links {
@@ -70,7 +71,7 @@ fn explain_links(alloc: Global, out: &mut String, links: &[Link<'_>]) -> Result<
     Ok(())
 }
 
-/// Explains values that occur twice in a unique list: first the values of attributes, then the references.
+/// Explains which values are repeated in a unique list: first the values of attributes, then the references.
 pub(crate) fn explain_repeats(
     alloc: Global,
     out: &mut String,

@@ -34,7 +34,7 @@ const OBJECT: [Field; 2] = [
     },
 ];
 
-/// Explains the document's own keys.
+/// Explains what is wrong with the keys of the document itself, `format` and `roots`, and with their values.
 pub(crate) fn explain_top(
     alloc: Global,
     out: &mut String,
@@ -44,8 +44,8 @@ pub(crate) fn explain_top(
     explain_object(alloc, out, prefix, &DOCUMENT, json)
 }
 
-/// Explains the keys of each object. A value that is no object is a fault of the layout only if it is a root. Under a containment, it is a
-/// fault with the cause `Value`.
+/// Explains what is wrong with the keys of each object, `class` and `features`, and with their values. A value that is no object is a fault
+/// of the layout only if it is a root. Under a containment, it is a fault with the cause `Value`.
 pub(crate) fn explain_objects(
     alloc: Global,
     out: &mut String,
@@ -126,9 +126,9 @@ fn explain_members(
 /// Which names of a document are looked at.
 #[derive(Clone, Copy)]
 pub(crate) enum Names {
-    /// The names of classes, which may be unknown or abstract.
+    /// The names of classes: a name that is unknown, or that is the name of an abstract class, is not allowed.
     Classes,
-    /// The names of features, which may be unknown or container references.
+    /// The names of features: a name that is unknown, or that is the name of a container reference, is not allowed.
     Features,
 }
 
@@ -152,7 +152,7 @@ fn explain_names_in(
     }
 }
 
-/// Explains each name in a document that is not allowed at its place; `names` says whether names of classes or of features are looked at.
+/// Explains which names in a document are not allowed at their places; `names` says whether names of classes or of features are looked at.
 pub(crate) fn explain_names(
     alloc: Global,
     out: &mut String,
@@ -166,7 +166,7 @@ pub(crate) fn explain_names(
     Ok(())
 }
 
-/// Explains the first object below level `limits::LEVELS`, the last level that a document can have.
+/// Explains which object is the first at a deeper level than `limits::LEVELS`, the deepest level that a document can have.
 pub(crate) fn explain_depth(out: &mut String, parts: &[Part<'_>]) -> Result<(), AllocError> {
     for part in parts {
         if part.level > limits::LEVELS {

@@ -6,7 +6,7 @@ use mm_types::{ClassNo, DataType, FeatureNo, limits};
 use serde_json::{Map, Value};
 use std::slice;
 
-/// The class of an object; `None` in the same cases as for `known`.
+/// The class of an object; `None` if `known` returns `None` for the object.
 pub(crate) fn class_of(meta: &Meta, json: &Value) -> Option<ClassNo> {
     let (class, _) = known(meta, json)?;
     Some(class)

@@ -48,7 +48,8 @@ file_bytes_after (written at bytes done) old = if done then take at old ++ bytes
 file_bytes_after (cut len done) old = if done then take len old else old
 file_bytes_after (synced done) old = old
 
--- the bytes of the file after the events, if no call has failed
+-- the bytes of the file after the events, if no call has failed. A call that failed counts as changing nothing, although the system may
+-- have changed the file
 abbrev pub file_bytes : List Event → List ℕ
 file_bytes [] = []
 file_bytes (e ∷ es) = file_bytes_after e (file_bytes es)
@@ -64,7 +65,7 @@ abbrev pub MayLeave : List Event → List ℕ → Type 0
 MayLeave [] c = c ≡ []
 MayLeave (e ∷ es) c = left_after e (file_bytes es) (MayLeave es) c
 
--- at some moment after t or more of the events, a crash could have left a file with the bytes c
+-- a crash could have left a file with the bytes c at some moment at which t or more of the events had happened
 abbrev pub LeftSince : List Event → ℕ → List ℕ → Type 0
 LeftSince [] t c = (t ≤ 0) × MayLeave [] c
 LeftSince (e ∷ es) t c = ((t ≤ length (e ∷ es)) × MayLeave (e ∷ es) c) ⊎ LeftSince es t c

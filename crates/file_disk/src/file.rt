@@ -1,4 +1,5 @@
-//! A file of the system as a disk. Each method of `Disk` makes the call of the system that it records, and no other call.
+//! A file of the system as a disk. Each method of `Disk` makes one call on the file (`write_all_at`, `set_len` or `sync_data`), and records
+//! this call.
 ghost use Rattle.std.specs.Prelude.{◌≡◌, IfOk, length};
 ghost use Rattle.journal.specs.Disk.{IsDurable};
 ghost use Rattle.file_disk.specs.Events.{LeftSince, MayLeave, counts, failures, file_bytes, only};
@@ -22,7 +23,7 @@ pub struct FileDisk {
 /// Why a file is not opened.
 #[derive(Debug, Drop)]
 pub enum OpenFault {
-    /// A call of the system failed.
+    /// A call of the system failed, or memory was refused.
     Io(io::Error),
     /// The file is locked: it is open as a disk already, in another process or in this process.
     InUse,
@@ -43,8 +44,8 @@ fn sync_folder(rt: &HostRuntime, path: &str) -> io::Result<()> {
 
 /// Opens a file, or makes the file if there is none. Returns the file as a disk, and its bytes.
 ///
-/// The bytes that an earlier process wrote are put on the disk before they are read. So a crash leaves the bytes that were read, until the
-/// file is written or cut.
+/// The bytes that an earlier process wrote are put on the disk before they are read. So until the file is written or cut, a crash leaves
+/// exactly the bytes that were read.
 pub fn open(rt: &HostRuntime, path: &str) -> Result<(FileDisk, Vec<u8>), OpenFault>
     ensures bytes { IfOk result (λ opened. file_bytes (events_of opened.0) ≡ opened.1.items) }
     ensures durable { IfOk result (λ opened. IsDurable (file_bytes (events_of opened.0)) (MayLeave (events_of opened.0))) }
@@ -67,7 +68,7 @@ pub fn open(rt: &HostRuntime, path: &str) -> Result<(FileDisk, Vec<u8>), OpenFau
     Ok((FileDisk { file, record }, bytes))
 }
 
-/// What a method of `Disk` returns, by whether its call of the system succeeded.
+/// What a method of `Disk` returns; `is_done` says whether the method's call of the system succeeded.
 fn outcome(is_done: bool) -> Result<(), DiskFault>
     ensures { result ≡ outcome_of is_done }
 {

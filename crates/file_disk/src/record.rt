@@ -27,7 +27,7 @@ impl Record {
         Record {}
     }
 
-    /// The record with one more call.
+    /// The record with one more call, which is the newest.
     pub(crate) fn with(&self, _call: &Call<'_>) -> Record
         ensures { result.events ≡ event_of _call.now ∷ self.now.events }
     {

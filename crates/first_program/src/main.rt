@@ -1,5 +1,5 @@
-//! A first program over `mmrepo_lib`. It makes a library with a book, counts the notifications of these changes, prints the saved library,
-//! and loads it again into a second repository. docs/LIBRARY.md shows it.
+//! A first program over `mmrepo_lib`. The program makes a library with a book, and counts the notifications of an adapter at the library.
+//! It prints the saved library, and loads the library again into a second repository. docs/LIBRARY.md shows the program.
 #![tactic(auto)]
 
 ghost use Rattle.mmrepo_lib.specs.Commands.{set};
@@ -53,7 +53,7 @@ fn resource_in(reply: Reply<Tally>) -> Result<ResourceNo, Stop> {
     }
 }
 
-/// Prints what the adapter was notified of.
+/// Prints the kind and the position of each notification.
 fn print_told<W: Write>(writer: &mut W, told: &[(AdapterNo, Notice)]) -> Result<(), io::Error> {
     for (_no, notice) in told {
         writeln!(writer, "{} at {}", notice.kind.name(), notice.position)?;
@@ -94,7 +94,7 @@ fn set_title<L: LinkStore>(
     repository.e_set(Node::Object(book), title, Value::Text(text))
 }
 
-/// Makes a library with a book.
+/// Makes a library with a book, attaches the adapter to the library, and prints the notifications.
 fn make_books<L: LinkStore, W: Write>(
     alloc: Global,
     writer: &mut W,
@@ -113,7 +113,7 @@ fn make_books<L: LinkStore, W: Write>(
     Ok(library)
 }
 
-/// Puts a library into a resource, and prints its document.
+/// Puts a library into a new resource, and prints the document of the resource.
 fn save<L: LinkStore, W: Write>(
     writer: &mut W,
     repository: &mut Repository<L, Tally>,
@@ -141,7 +141,7 @@ fn metamodel(alloc: Global) -> Result<Meta, MetaFault> {
     check_document(alloc, LIBRARY.as_bytes())
 }
 
-/// Loads the only resource of `first`, as it is saved, into `second`, and prints how many objects this resource contains directly.
+/// Saves the only resource of `first`, loads the saved text into `second`, and prints how many roots the loaded resource has.
 fn load_second<L: LinkStore, W: Write>(
     writer: &mut W,
     first: &Repository<L, Tally>,
@@ -153,7 +153,7 @@ fn load_second<L: LinkStore, W: Write>(
     Ok(())
 }
 
-/// Loads the library again, into a repository of its own.
+/// Loads the library again, into a second repository that is made for it.
 fn reload_books<L: LinkStore, W: Write>(
     alloc: Global,
     writer: &mut W,

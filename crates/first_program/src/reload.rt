@@ -4,9 +4,9 @@ ghost use Rattle.mmrepo_lib.specs.Steps.{Alike, IsSaved, empty_state, reads};
 
 use mmrepo_lib::{Adapter, LinkStore, Refused, Repository, ResourceNo, laws};
 
-/// Loads the only resource of `first`, as it is saved, into `second`, and resolves its proxies. `second` must be empty and over the same
-/// metamodel, and `uri` must be the URI of the resource. If `first` has no proxy, and no text of a reference is too long, both repositories
-/// then have the same objects, with the same values, at the same addresses.
+/// Saves the only resource of `first`, loads the saved text into `second`, and resolves the proxies of `second`. `second` must be empty and
+/// over the same metamodel, and `uri` must be the URI of the resource. If `first` has no proxy, and no text of a reference is too long, the
+/// resources of both repositories then have the same objects, with the same values, at the same addresses.
 pub(crate) fn load_again<L: LinkStore, A: Adapter>(
     first: &Repository<L, A>,
     second: &mut Repository<L, A>,

@@ -19,7 +19,7 @@ impl Tally {
         }
     }
 
-    /// How many ADDs it got.
+    /// How many ADDs the adapter got.
     pub fn additions(&self) -> u64 {
         self.additions
     }

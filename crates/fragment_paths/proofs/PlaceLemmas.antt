@@ -1,9 +1,9 @@
 -- The position of an object at a reference is its first position.
-use Rattle.std.proofs.Common.{◌≡◌, ℕ, true, false, List, [], Option, Some, nat_eq, slice_get, unwrap_or, refl, sym, ap, ◌∙◌, subst}
+use Rattle.std.proofs.Common.{◌≡◌, ℕ, true, false, List, Option, Some, nat_eq, slice_get, unwrap_or, refl, sym, ap, ◌∙◌, subst}
 use Rattle.std.specs.Prelude.{cond}
 use Rattle.std.specs.Map.{lookup}
 use Rattle.std.proofs.lemmas.Bool.{eqb-true}
-use Rattle.std.proofs.lemmas.Option.{none-some, same_Some}
+use Rattle.std.proofs.lemmas.Option.{same_Some}
 use Rattle.mm_types.specs.Shapes.{shape}
 use Rattle.mm_types.specs.declared.end.End.{End}
 use Rattle.mm_types.specs.declared.numbers.ObjectNo.{ObjectNo}
@@ -15,9 +15,6 @@ use Rattle.models.proofs.PlaceLemmas.{position-target}
 use Rattle.fragment_paths.specs.Fragments.{position_in}
 use Rattle.fragment_paths.specs.Known.{KnowsPositions}
 use Rattle.fragment_paths.specs.declared.positions.EndPosition.{EndPosition}
-
-pub nothing-known : (s : Model) (known : List (ℕ × EndPosition)) → known ≡ [] → KnowsPositions (reading s) known
-nothing-known s known is o p h = absurd (none-some p (ap (lookup (nat_eq o.0)) (sym is) ∙ h))
 
 stands-at : (s : Model) (e : End) (i : ℕ) (o : ObjectNo) → IsLegal s → (shape s.metamodel e.feature).is_reference ≡ true → slice_get ((reading s).values e) i ≡ Some (value.Object o) → position_in (reading s) e o ≡ i
 stands-at s e i o legal reference there =

@@ -3,7 +3,7 @@ use Rattle.std.proofs.Common.{◌≡◌, ◌<◌, length, arith, List, [], ◌�
 use Rattle.std.specs.Prelude.{option_and_then, unwrap_or}
 use Rattle.std.specs.List.{last_or}
 use Rattle.std.specs.Option.{option_map_or}
-use Rattle.std.proofs.lemmas.List.{append-nil, reverse-append}
+use Rattle.std.proofs.lemmas.List.{reverse-append}
 use Rattle.mm_types.specs.declared.end.End.{End}
 use Rattle.mm_types.specs.declared.numbers.Node.{Node}
 use Rattle.mm_types.specs.declared.numbers.Node.TheVariants as node
@@ -111,8 +111,3 @@ module _ (s : Model) (legal : IsLegal s) where
   -- each step is nearer to the top
   pub locate-falls : (o : ObjectNo) (e : End) (p : ObjectNo) → Some e ≡ holder s.links (node.Object o) → e.node ≡ node.Object p → length (above s.links (node.Object p)) < length (above s.links (node.Object o))
   locate-falls o e p h is = let one = ap (λ (ns : List Node). length ns) (above-node o e (node.Object p) (sym h) is) in omega (arith, one)
-
--- adding no steps changes nothing
-pub further-none : (x : Option Located) → option_map (further []) x ≡ x
-further-none None = refl
-further-none (Some x) = λ i. Some (record { resource = x.resource; path = new_path x.path.root (append-nil x.path.steps i) })

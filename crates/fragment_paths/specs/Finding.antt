@@ -39,7 +39,7 @@ abbrev pub object_after_steps : Reading → List Step → ObjectNo → Option Ob
 object_after_steps r [] o = Some o
 object_after_steps r (s ∷ ss) o = option_and_then (object_after_steps r ss) (object_after_step r o s)
 
--- the object that a path leads to: from a root, step by step
+-- the object to which a path leads in a resource: the path names a root of the resource, and leads on from this root step by step
 abbrev pub find : Reading → ResourceNo → Path → Option ObjectNo
 find r k p = option_and_then (object_after_steps r p.steps) (slice_get (roots r k) p.root)
 
@@ -47,8 +47,8 @@ find r k p = option_and_then (object_after_steps r p.steps) (slice_get (roots r 
 abbrev pub found_by : Reading → ResourceNo → List ℕ → Option ObjectNo
 found_by r k t = option_and_then (find r k) (parse t)
 
--- the object at an address: the text before the first `#` is the URI of the resource, and the text after it is the fragment. None if there
--- is no `#`, if no resource has the URI, or if no object is at the fragment
+-- the object at an address: the text before the first `#` is the URI of the resource, and the text after the first `#` is the fragment.
+-- None if there is no `#`, if no resource has the URI, or if the fragment leads to no object
 abbrev pub at : Reading → List ℕ → Option ObjectNo
 at r t =
     if has_mark t then option_and_then (λ k. found_by r k (fragment_part t)) (resource_named r (uri_part t)) else None

@@ -44,21 +44,23 @@ path_of r o = path_under r (r.above (node.Object o)) o
 abbrev pub has_one_root : Reading → ResourceNo → Bool
 has_one_root r k = nat_eq (length (r.values (roots_end r k))) 1
 
--- the fragment of an object; none if the object is in no resource. The root's segment is empty if the resource has one root
+-- the fragment of an object; none if the object is in no resource. The text leaves out the position of the root if the resource has one
+-- root
 abbrev pub fragment : Reading → ObjectNo → Option (List ℕ)
 fragment r o = option_and_then (λ k. option_map (path_text (has_one_root r k)) (path_of r o)) (resource_of r.above o)
 
--- the address of an object: its resource's URI, `#`, and its fragment
+-- the address of an object: its resource's URI, `#`, and its fragment; none if the object is in no resource
 abbrev pub address : Reading → ObjectNo → Option (List ℕ)
 address r o =
     option_and_then
     (λ (k : ResourceNo). option_and_then (λ u. option_map (address_text u) (fragment r o)) (slice_get r.uris k.0))
     (resource_of r.above o)
 
--- whether an object is in a resource
+-- whether an object is in the resource k
 abbrev pub is_in : Reading → ResourceNo → ObjectNo → Bool
 is_in r k o = option_map_or (λ j. nat_eq j.0 k.0) (resource_of r.above o) false
 
--- how a resource refers to an object: by the object's fragment if the object is in the resource too, and otherwise by the object's address
+-- how a resource refers to an object: by the object's fragment if the object is in the resource too, and otherwise by the object's address;
+-- none if the object is in no resource
 abbrev pub reference : Reading → ResourceNo → ObjectNo → Option (List ℕ)
 reference r k o = if is_in r k o then fragment r o else address r o

@@ -18,6 +18,7 @@ is_full_for m o = nat_le 1024 (map.len m) && not (map.contains_key m o.0)
 abbrev pub with_room : Kept → ObjectNo → Kept
 with_room m o = if is_full_for m o then map.empty else m
 
--- the map after a text is kept for an object; if memory is refused, the map may lack the text
+-- the map n after a text t was to be kept for an object: n has this text, or memory was refused and the map was only prepared for the text
+-- (`with_room`)
 abbrev pub MayKeep : Kept → ObjectNo → List ℕ → Kept → Type 0
 MayKeep m o t n = (n ≡ map.insert (with_room m o) o.0 t) ⊎ (n ≡ with_room m o)

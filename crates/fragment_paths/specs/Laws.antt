@@ -42,8 +42,7 @@ pub record LeavesAddresses (m : Metamodel) (v w : ValuesState) (a b : Links) : T
   pub fragment : (o : ObjectNo) → fragments.fragment (reading (model_of m w b)) o ≡ fragments.fragment (reading (model_of m v a)) o
   pub address : w.uris ≡ v.uris → (o : ObjectNo) → fragments.address (reading (model_of m w b)) o ≡ fragments.address (reading (model_of m v a)) o
 
--- an object among the roots of resource k of the first model has the same position as its image has among the roots of resource j of the
--- second model
+-- the image of each root of resource k of the first model is a root of resource j of the second model, at the same position
 abbrev pub HasImagesOfRoots : Metamodel → ValuesState → ValuesState → Links → Links → ResourceNo → ResourceNo → (ObjectNo → ObjectNo) → Type 0
 HasImagesOfRoots m v w a b k j image =
     (i : ℕ) (c : ObjectNo) → slice_get (values_at (model_of m v a) (at_end (node.Resource k) (lookups.contents m))) i ≡ Some (value.Object c)

@@ -11,14 +11,14 @@ use Rattle.web_uris.specs.declared.path.Step.{Step}
 use Rattle.fragment_paths.specs.Fragments.{has_one_root, path_of, position_in}
 use Rattle.fragment_paths.specs.declared.paths.Located.{Located}
 
--- the path from the root o on; e is the end that contains o, and the steps are given from the last to the first
+-- the path that begins at the root o and then takes the given steps, which are given in reverse order; e is the end that contains o
 abbrev pub path_by : Reading → End → ObjectNo → List Step → Path
 path_by r e o steps = new_path (position_in r e o) (reverse steps)
 
 abbrev pub location_of : Reading → ObjectNo → Option Located
 location_of r o = option_and_then (λ k. option_map (λ p. record { resource = k; path = p }) (path_of r o)) (resource_of r.above o)
 
--- the text of the path of a located object. The text leaves out the index of the root if the resource has one root
+-- the text of the path of a located object. The text leaves out the position of the root if the resource has one root
 abbrev pub located_text : Reading → Located → List ℕ
 located_text r x = path_text (has_one_root r x.resource) x.path
 

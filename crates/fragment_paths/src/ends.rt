@@ -17,7 +17,7 @@ pub(crate) fn object_in<L: LinkStore>(model: &ModelRef<L>, end: End, index: u32)
     model.object_in(end, index)
 }
 
-/// The root of a resource at a position; `None` past the last position.
+/// The root of a resource at a position; `None` past the last position, and if no resource has the number.
 pub(crate) fn root_at<L: LinkStore>(
     model: &ModelRef<L>,
     resource: ResourceNo,

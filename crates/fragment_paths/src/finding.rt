@@ -82,8 +82,8 @@ fn found_by<L: LinkStore>(
 }
 
 /// The object at an address (EMF: ResourceSet.getEObject, without loading): the object to which the fragment after the first `#` leads in
-/// the resource whose URI comes before the `#`. `None` if there is no `#`, no resource of exactly this URI, no fragment after the `#`, or
-/// no object at the path of the fragment. Fails only if memory is refused.
+/// the resource whose URI comes before the `#`. `None` if there is no `#`, if no resource has exactly this URI, if the text after the `#`
+/// is no fragment, or if the fragment leads to no object. Fails only if memory is refused.
 pub fn object_at<L: LinkStore>(
     alloc: Global,
     model: &ModelRef<L>,

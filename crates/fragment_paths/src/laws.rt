@@ -1,4 +1,4 @@
-//! Laws of the definitions, each the contract of a function that does nothing.
+//! Laws on fragments and addresses in legal models. Each law is the contract of a function that does nothing.
 ghost use Rattle.std.specs.Prelude.{◌≡◌, Some};
 ghost use Rattle.mm_types.specs.Resolved.{Metamodel};
 ghost use Rattle.mm_types.specs.declared.numbers.ObjectNo.{ObjectNo};
@@ -17,8 +17,8 @@ pub fn an_object_is_found_where_it_stands()
     ensures { (s : Model) → IsLegal s → FindsEach (reading s) }
 {}
 
-/// If the ends of containments hold the same values in two models of one metamodel, the nodes above each node are the same, and so is the
-/// fragment of each object. If the resources have the same URIs too, the address of each object is also the same.
+/// If each end of a containment holds the same values in two models of one metamodel, each node has the same nodes above it in both models,
+/// and each object has the same fragment. If the resources have the same URIs too, each object also has the same address.
 pub fn addresses_follow_from_what_contains_what()
     ensures { (m : Metamodel) (v w : ValuesState) (a b : Links) → IsLegal (model_of m v a) → IsLegal (model_of m w b) → HaveSameParts m v w a b → LeavesAddresses m v w a b }
 {}

@@ -53,7 +53,8 @@ impl PathCache {
     }
 
     /// Keeps a text for an object, in place of any text that was kept for this object. If 1,024 texts of other objects are kept, all of
-    /// them are dropped first. If memory is refused, the text is not kept, and an earlier text of the object stays.
+    /// them are dropped first, even if memory is then refused. If memory is refused, the text is not kept, and an earlier text of the
+    /// object stays.
     pub fn keep(&mut self, object: ObjectNo, text: &str)
         ensures { kept.MayKeep self.old object text.now self.new }
     {
@@ -88,8 +89,8 @@ impl PathCache {
         }
     }
 
-    /// Keeps the text of an object. The map is not full, or has a text of the object. If memory is refused, the text is not kept, and an
-    /// earlier text of the object stays.
+    /// Keeps the text of an object. Requires that the map is not full, or has a text of the object. If memory is refused, the text is not
+    /// kept, and an earlier text of the object stays.
     fn put(&mut self, object: ObjectNo, text: Text)
         requires { kept.is_full_for self.old object ≡ false }
         ensures { (self.new ≡ map.insert self.old object.0 text) ⊎ (self.new ≡ self.old) }

@@ -18,7 +18,7 @@ pub(crate) struct Located {
     pub path: Path,
 }
 
-/// The name of an end's feature; empty if the metamodel has no feature with the number.
+/// The name of an end's feature; empty if the metamodel has no feature with the number in `end`.
 fn name_of<L: LinkStore>(alloc: Global, model: &ModelRef<L>, end: End) -> Result<Text, AllocError>
     ensures { IfOk result (λ t. t ≡ fragments.end_name (reading model.now) end) }
 {

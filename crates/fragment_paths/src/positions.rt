@@ -83,7 +83,7 @@ impl<'m, 'a, L: LinkStore> Positions<'m, 'a, L> {
         self.model.lemma_is_legal();
     }
 
-    /// The end that contains an object.
+    /// The end that contains an object; `None` if no end contains the object.
     pub(crate) fn holder(&self, object: ObjectNo) -> Option<End>
         ensures { result ≡ (reading self.now).holder (node.Object object) }
     {
@@ -109,7 +109,7 @@ impl<'m, 'a, L: LinkStore> Positions<'m, 'a, L> {
         self.known.contains_key(&object.0)
     }
 
-    /// Notes that `object` is at the position `index` of `end`, an end of a reference.
+    /// Notes that `object` is at the position `index` of `end`. Requires that the object is there, and that `end` is an end of a reference.
     fn note(&mut self, end: End, index: u32, object: ObjectNo) -> Result<(), AllocError>
         requires reference { (shape self.old.metamodel end.feature).is_reference ≡ true }
         requires there { slice_get ((reading self.old).values end) index ≡ Some (value.Object object) }

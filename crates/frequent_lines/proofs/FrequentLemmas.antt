@@ -157,7 +157,7 @@ gives_removevalue args = at (is_one_word args) refl
     at false one = tt
 
 added : (args v i : List ℕ) (k : ℕ) → natural_number i ≡ Some k → words args ≡ v ∷ i ∷ [] → (w f : List ℕ) (o : ObjectNo) → object_in w ≡ Some o
-    → name_in f ≡ Some f → line_of (codes "add" ∷ w ∷ f ∷ words args) ≡ act_line o f (act.AddAt v k)
+    → name_in f ≡ Some f → line_of (codes "add" ∷ w ∷ f ∷ words args) ≡ act_line o f (act.Add v (Some k))
 added args v i k number two w f o object name = rw (two, node_is w o object, name, number)
     (ap line_with (zipped (λ p. asks.At p.0.0 p.0.1 (feature.AddAt k p.1)) (node.Object o) f (value_in v)))
 
@@ -165,7 +165,7 @@ gives_add : (args : List ℕ) → Gives (codes "add") args (act_in (codes "add")
 gives_add args = at (is_one_word args) (begins_word args) (natural_number (drop (word_len args + 1) args)) refl refl refl
   where
     at : (b d : Bool) (k : Option ℕ) → is_one_word args ≡ b → begins_word args ≡ d → natural_number (drop (word_len args + 1) args) ≡ k
-        → Gives (codes "add") args (cond b (Some (act.Add args)) (cond d (option_map (act.AddAt (take (word_len args) args)) k) None))
+        → Gives (codes "add") args (cond b (Some (act.Add args None)) (cond d (option_map (λ n. act.Add (take (word_len args) args) (Some n)) k) None))
     at true d k one begins number = λ w f o object name. rw (one_word args one, node_is w o object, name)
         (ap line_with (zipped (λ p. asks.At p.0.0 p.0.1 (feature.Add p.1)) (node.Object o) f (value_in args)))
     at false true (Some k) one begins number = λ w f o object name.

@@ -23,23 +23,28 @@ use Rattle.frequent_lines.specs.declared.frequent_act.FrequentAct.{FrequentAct}
 use Rattle.frequent_lines.specs.declared.frequent_act.FrequentAct.TheVariants as act
 use Rattle.script_lines.specs.declared.line.Line.{Line}
 use Rattle.script_lines.specs.declared.line.Line.TheVariants as line
+use Rattle.script_lines.specs.declared.written_value.WrittenValue.{WrittenValue}
 
 -- ---- what a frequent line asks for
 
--- what an act without a value asks for
+-- what a change without a value asks for
 abbrev pub bare_form : BareAct → FeatureForm
 bare_form bare.Unset = feature.Unset
 bare_form (bare.Remove k) = feature.Remove k
 bare_form (bare.Move to from) = feature.Move to from
 bare_form (bare.Resolve k) = feature.Resolve k
 
+-- what an addition asks for: with an index, or at the end
+abbrev pub add_form : Option ℕ → WrittenValue → FeatureForm
+add_form None v = feature.Add v
+add_form (Some k) v = feature.AddAt k v
+
 -- what an act on a feature of an object asks for; the line is bad if the act has a word for a value and this word is no value
 abbrev pub act_line : ObjectNo → List ℕ → FrequentAct → Line
 act_line o f act.Get = line.Form (asks.At (node.Object o) f (feature.Read Get))
 act_line o f act.IsSet = line.Form (asks.At (node.Object o) f (feature.Read IsSet))
 act_line o f (act.Set w) = line_with (option_map (λ v. asks.At (node.Object o) f (feature.Set v)) (value_in w))
-act_line o f (act.Add w) = line_with (option_map (λ v. asks.At (node.Object o) f (feature.Add v)) (value_in w))
-act_line o f (act.AddAt w k) = line_with (option_map (λ v. asks.At (node.Object o) f (feature.AddAt k v)) (value_in w))
+act_line o f (act.Add w index) = line_with (option_map (λ v. asks.At (node.Object o) f (add_form index v)) (value_in w))
 act_line o f (act.RemoveValue w) = line_with (option_map (λ v. asks.At (node.Object o) f (feature.RemoveValue v)) (value_in w))
 act_line o f (act.Bare b) = line.Form (asks.At (node.Object o) f (bare_form b))
 
@@ -63,9 +68,9 @@ word_in text = if is_one_word text then Some text else None
 -- `VALUE`, or `VALUE N`
 abbrev pub add_in : List ℕ → Option FrequentAct
 add_in args =
-    if is_one_word args then Some (act.Add args)
+    if is_one_word args then Some (act.Add args None)
     else if begins_word args
-    then option_map (act.AddAt (take (word_len args) args)) (natural_number (drop (word_len args + 1) args))
+    then option_map (λ k. act.Add (take (word_len args) args) (Some k)) (natural_number (drop (word_len args + 1) args))
     else None
 
 -- `N N`: first the index to which a value is moved, then the index from which it is moved
@@ -73,7 +78,8 @@ abbrev pub move_in : List ℕ → Option FrequentAct
 move_in args =
     option_map (λ p. act.Bare (bare.Move p.0 p.1)) (option_zip (natural_number (before_first is_space args)) (natural_number (after_first is_space args)))
 
--- the act that a verb and the text after the name of a feature ask for
+-- the act that a verb and the text after the name of a feature ask for; none if the verb asks for no act, or if the text does not fit the
+-- verb
 abbrev pub act_in : List ℕ → List ℕ → Option FrequentAct
 act_in verb args =
     if bytes_eq verb (codes "get") then alone act.Get args
@@ -87,17 +93,17 @@ act_in verb args =
     else if bytes_eq verb (codes "resolve") then option_map (λ k. act.Bare (bare.Resolve k)) (natural_number args)
     else None
 
--- `OBJ NAME` at the front of a text
+-- the object and the name of a feature, if a text begins with `OBJ NAME`
 abbrev pub object_feature_in : List ℕ → Option (ObjectNo × List ℕ)
 object_feature_in text = option_zip (object_in (before_first is_space text)) (name_in (before_first is_space (after_first is_space text)))
 
--- a line about a feature, from its verb and the text after the verb
+-- a line about a feature, read from its verb and the text after the verb and a space; none if the line is not frequent
 abbrev pub at_in : List ℕ → List ℕ → Option Frequent
 at_in verb text =
     option_map (λ p. frequent.At p.0.0 p.0.1 p.1)
     (option_zip (object_feature_in text) (act_in verb (after_first is_space (after_first is_space text))))
 
--- a line, from its verb and the text after the verb
+-- a line, read from its verb and the text after the verb and a space; none if the line is not frequent
 abbrev pub frequent_with : List ℕ → List ℕ → Option Frequent
 frequent_with verb text =
     if bytes_eq verb (codes "new") then option_map frequent.New (name_in text)

@@ -7,7 +7,8 @@ pub enum BareAct {
     Unset,
     /// `remove OBJ NAME N`
     Remove(u32),
-    /// `move OBJ NAME N N`: first the index `to`, then the index `from`.
+    /// `move OBJ NAME N N`: the first number is `to`, the index to which a value is moved, and the second is `from`, the index from which
+    /// it is moved.
     Move { to: u32, from: u32 },
     /// `resolve OBJ NAME N`
     Resolve(u32),

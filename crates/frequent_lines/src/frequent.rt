@@ -72,7 +72,7 @@ fn alone_of<'a>(act: FrequentAct<'a>, args: &str) -> Option<FrequentAct<'a>>
     if args.is_empty() { Some(act) } else { None }
 }
 
-/// The text as a word, if the text is one word.
+/// The text as a word; `None` if the text is not exactly one word.
 #[inline(always)]
 fn word_of(text: &str) -> Option<Word<'_>>
     ensures { result ≡ the_word_in text.now }
@@ -84,7 +84,7 @@ fn word_of(text: &str) -> Option<Word<'_>>
     }
 }
 
-/// An addition, read from its arguments: a value, or a value and an index.
+/// An addition, read from its arguments: a word for a value, or this word and an index. `None` if the arguments are neither.
 #[inline(always)]
 fn add_of(args: &str) -> Option<FrequentAct<'_>>
     ensures { result ≡ add_in args.now }
@@ -95,14 +95,14 @@ fn add_of(args: &str) -> Option<FrequentAct<'_>>
     }
     let len = word_len_of(bytes);
     if len == bytes.len() {
-        return Some(FrequentAct::Add(Word::new(args)));
+        return Some(FrequentAct::Add(Word::new(args), None));
     }
     let (word, index) = cut_at(args, len);
     let index = natural_of(index)?;
-    Some(FrequentAct::AddAt(Word::new(word), index))
+    Some(FrequentAct::Add(Word::new(word), Some(index)))
 }
 
-/// A move, read from its arguments: two indexes.
+/// A move, read from its arguments: two indexes. `None` if the arguments are not two indexes.
 #[inline(always)]
 fn move_of(args: &str) -> Option<FrequentAct<'_>>
     ensures { result ≡ move_in args.now }
@@ -142,7 +142,8 @@ fn long_act_of(verb: LongVerb, args: &str) -> Option<FrequentAct<'_>>
     }
 }
 
-/// A line about a feature, read from a verb of three letters and the text after the verb.
+/// A line about a feature, read from a verb of three letters and the text after the verb and its space. `None` if the line is not frequent,
+/// and for `new`.
 #[inline(always)]
 fn short_line_of(verb: ShortVerb, text: &str) -> Option<Frequent<'_>>
     ensures { result ≡ at_in (short_verb verb) text.now }
@@ -152,7 +153,8 @@ fn short_line_of(verb: ShortVerb, text: &str) -> Option<Frequent<'_>>
     Some(Frequent::At(object, feature, act))
 }
 
-/// A line about a feature, read from a verb of more than three letters and the text after the verb.
+/// A line about a feature, read from a verb of more than three letters and the text after the verb and its space. `None` if the line is not
+/// frequent.
 #[inline(always)]
 fn long_line_of(verb: LongVerb, text: &str) -> Option<Frequent<'_>>
     ensures { result ≡ at_in (long_verb verb) text.now }
@@ -186,7 +188,7 @@ fn fragment_of<'a>(object: &str) -> Option<Frequent<'a>>
     Some(Frequent::Fragment(object_of(object)?))
 }
 
-/// A line whose verb is not `new`, `get`, `set` or `add`; `None` if the line is not frequent.
+/// A line that does not begin with `new`, `get`, `set` or `add` and a space; `None` if the line is not frequent.
 #[inline(always)]
 fn other_line_of(line: &str) -> Option<Frequent<'_>>
     requires { short_verb_in line.now ≡ None }

@@ -12,10 +12,8 @@ pub enum FrequentAct<'a> {
     IsSet,
     /// `set OBJ NAME VALUE`
     Set(Word<'a>),
-    /// `add OBJ NAME VALUE`
-    Add(Word<'a>),
-    /// `add OBJ NAME VALUE N`
-    AddAt(Word<'a>, u32),
+    /// `add OBJ NAME VALUE`; with an index, `add OBJ NAME VALUE N`.
+    Add(Word<'a>, Option<u32>),
     /// `removevalue OBJ NAME VALUE`
     RemoveValue(Word<'a>),
     /// A change without a value: `unset`, `remove`, `move` or `resolve`.

@@ -12,7 +12,8 @@ pub(crate) enum ShortVerb {
     Add,
 }
 
-/// A verb of more than three letters whose lines are about a feature. So `container` and `fragment` are not among these verbs.
+/// A verb of more than three letters whose lines are about a feature. `container` and `fragment`, whose lines name no feature, are not
+/// among these verbs.
 #[derive(Clone, Copy, Drop)]
 pub(crate) enum LongVerb {
     IsSet,
@@ -23,7 +24,7 @@ pub(crate) enum LongVerb {
     Resolve,
 }
 
-/// The verb of three letters that a line begins with, if a space follows it.
+/// The verb of three letters that a line begins with, if a space follows the verb.
 #[inline(always)]
 pub(crate) fn short_verb_of(line: &str) -> Option<ShortVerb>
     ensures { result ≡ short_verb_in line.now }
@@ -37,7 +38,7 @@ pub(crate) fn short_verb_of(line: &str) -> Option<ShortVerb>
     }
 }
 
-/// The `LongVerb` that a line begins with, if a space follows it.
+/// The `LongVerb` that a line begins with, if a space follows the verb.
 #[inline(always)]
 pub(crate) fn long_verb_of(line: &str) -> Option<LongVerb>
     ensures { result ≡ long_verb_in line.now }

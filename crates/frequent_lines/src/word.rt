@@ -1,7 +1,7 @@
 //! Words.
 use std::marker::Model;
 
-/// A word of a line, borrowed from the line. Contracts see it as the list of its bytes.
+/// A word of a line, borrowed from the line. Contracts see a `Word` as the list of its bytes.
 #[derive(Drop)]
 pub struct Word<'a> {
     text: &'a str,

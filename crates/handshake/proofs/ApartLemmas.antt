@@ -147,13 +147,6 @@ losses-of r t = by (opposite_link_end r t) refl
           | false ↦ (of_near r t, (of_far r t u is, tt))
         ]
 
-far_loss-of : (r : Reading) (t : LinkEnd) → AllByRecursion (IsOf r t) (far_loss r t)
-far_loss-of r t = by (opposite_link_end r t) refl
-  where
-    by : (q : Option LinkEnd) → opposite_link_end r t ≡ q → AllByRecursion (IsOf r t) (option_map_or (λ u. loss u ∷ []) q [])
-    by None _ = tt
-    by (Some u) is = (of_far r t u is, tt)
-
 far_loss-apart : (r : Reading) (t : LinkEnd) → AreApart (far_loss r t)
 far_loss-apart r t = elim (opposite_link_end r t) as (λ q. AreApart (option_map_or (λ u. loss u ∷ []) q [])) [ None ↦ tt | Some u ↦ (tt, tt) ]
 
@@ -209,9 +202,6 @@ module _ (s : Model) (legal : IsLegal s) where
       by : (v : Value) (q : Option FeatureNo) → other_side t.end.node v q ≡ Some y → y.value ≡ node_value t.end.node
       by (value.Object o) (Some g) h = ap (λ (z : LinkEnd). z.value) (sym (same_Some (link_end (far_end o g) (node_value t.end.node)) y h))
       by v q h = absurd (none-some y h)
-
-  abbrev FarKey : End → LinkEnd → Type 0
-  FarKey e y = (y.end ≡ e → ⊥) × (y.value ≡ node_value e.node)
 
   far_loss-far : (e : End) (t : LinkEnd) → t.end ≡ e → AllByRecursion (λ (x : FeatureChange). (y : LinkEnd) × (opposite_link_end (reading s) t ≡ Some y) × (x.at ≡ y.end)) (far_loss (reading s) t)
   far_loss-far e t is = by (opposite_link_end (reading s) t) refl

@@ -2,7 +2,7 @@
 use Rattle.std.proofs.Common.{◌≡◌, ◌<◌, ◌≤◌, ◌+◌, ◌-◌, subst, ℕ, zero, suc, length, drop, take, slice_get, slice_index_or, Option, Some, None, option_map, option_to_list, if◌then◌else◌, arith, Bool, true, false, cond, List, [], ◌∷◌, ◌++◌, filter, map, refl, append_assoc, ap, sym, ◌∙◌}
 use Rattle.std.proofs.lemmas.Bool.{or_parts}
 use Rattle.std.proofs.lemmas.List.{append-nil, drop_all, drop_more, map-append}
-use Rattle.std.proofs.lemmas.Option.{none-some, same_Some, slice_get-get_or}
+use Rattle.std.proofs.lemmas.Option.{none-some, slice_get-get_or}
 use Rattle.mm_types.specs.Ends.{first_in, has_value, index_in}
 use Rattle.mm_types.specs.Same.{same_value}
 use Rattle.mm_types.specs.declared.end.End.{End}
@@ -37,13 +37,6 @@ index_past [] v h = refl
 index_past (w ∷ ws) v h =
     let both = or_parts (same_value v w) (has_value ws v) h in
     rw both.0 (ap suc (index_past ws v both.1))
-
-pub site-found : (vs : List Value) (v : Value) (k : ℕ) → Some k ≡ first_in vs v → k ≡ index_in vs v
-site-found vs v k h =
-    elim (has_value vs v) as (λ b. Some k ≡ (if b then Some (index_in vs v) else None) → k ≡ index_in vs v) [
-      | true ↦ λ found. same_Some k (index_in vs v) found
-      | false ↦ λ none. absurd (none-some k (sym none))
-    ] h
 
 pub site-past : (vs : List Value) (v : Value) → None ≡ first_in vs v → length vs ≡ index_in vs v
 site-past vs v h =

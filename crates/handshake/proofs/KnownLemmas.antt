@@ -28,7 +28,6 @@ use Rattle.models.specs.Legal.{IsLegal, is_short, is_short_text}
 use Rattle.models.specs.Model.{Model, reading}
 use Rattle.models.proofs.EndLemmas.{values-single}
 use Rattle.models.specs.Reading.{Reading, at_end, has_feature, is_live, is_node_live, is_repeat, is_value_live, position_for, takes, has_uri}
-use Rattle.containment.proofs.PartLemmas.{object-reference}
 use Rattle.handshake.specs.Displaced.{taken_index}
 use Rattle.handshake.specs.Refusals.{add_refusal, early_refusal, gain_refusal, is_at_limit, is_full_at, is_recursive, kind_refusal, late_refusal, link_refusal, many_refusal, named_refusal, of_either, set_refusal, single_refusal, type_refusal, uri_refusal, value_of}
 use Rattle.proxies.specs.Refusals.{is_mistyped, is_there_already, resolve_refusal, target_refusal}
@@ -295,10 +294,6 @@ linkable r e o h =
     let first = none-else_by (Bound where_so of_either (is_full_at r) r e o) _ h in
     let later = none-else_by (Recursive where_so is_recursive r e o) (Limit where_so of_either (is_at_limit r) r e o) first.1 in
     record { room = none-where_so Bound _ first.0; clear = none-where_so Recursive _ later.0; few = none-where_so Limit _ later.1 }
-
--- so a feature that is set to an object is a reference
-pub set-reference : (r : Reading) (n : Node) (f : FeatureNo) (o : ObjectNo) → late_refusal r (At (at_end n f) (Set (value.Object o))) ≡ None → (shape r.metamodel f).is_reference ≡ true
-set-reference r n f o h = object-reference r.metamodel r.class f o (set-taken r n f (value.Object o) h).takes
 
 ---------------------------------------------------------------- resources
 

@@ -19,13 +19,13 @@ pub record IsDocument (m : Metamodel) (doc : Doc) : Type 0 where
   pub uri : List ℕ
   pub read : IsRead m uri doc
 
--- the document of a load was read
+-- if a change is a load, its document was read
 abbrev pub HasReadDocument : Metamodel → Change → Type 0
 HasReadDocument m (Load k doc) = IsDocument m doc
 HasReadDocument m _ = Unit {0}
 
--- if the first object of a load's document gets the number n, all objects of the document get numbers within the limit; and no list of the
--- document has too many values
+-- if a change is a load, and the first object of its document gets the number n: all objects of the document, and all objects that it
+-- names, get numbers within the limit; and no list of the document has too many values
 abbrev pub HasFittingDocument : ℕ → Change → Type 0
 HasFittingDocument n (Load k doc) = IsFitting n doc
 HasFittingDocument n _ = Unit {0}
@@ -35,7 +35,7 @@ pub record IsRemovalOf (r : Reading) (c : Change) (q : Option Removal) : Type 0 
   pub whose : option_map (λ (x : Removal). x.object) q ≡ destroyed_by c
   pub found : IfSome q (IsRemoval r)
 
--- whether a change makes an object, or is an act at an end and the act is no `Resolve`; if so, the change edits either only values or only
+-- whether a change is a `Create`, or is an act at an end and the act is no `Resolve`; if so, the change edits either only values or only
 -- links
 abbrev pub edits_one_kind : Change → Bool
 edits_one_kind (Create c) = true
@@ -47,10 +47,10 @@ abbrev pub is_at_reference : Metamodel → Change → Bool
 is_at_reference m (At e a) = (shape m e.feature).is_reference
 is_at_reference m _ = false
 
--- whether a change makes an object, or changes an attribute; if so, the change edits no link
+-- whether a change is a `Create`, or is an act at an attribute and the act is no `Resolve`; if so, the change edits only values
 abbrev pub edits_values_alone : Metamodel → Change → Bool
 edits_values_alone m c = edits_one_kind c && not (is_at_reference m c)
 
--- whether a change changes a reference, and resolves no proxy; if so, the change edits only links
+-- whether a change is an act at a reference and the act is no `Resolve`; if so, the change edits only links
 abbrev pub edits_links_alone : Metamodel → Change → Bool
 edits_links_alone m c = edits_one_kind c && is_at_reference m c

@@ -1,5 +1,6 @@
 -- Which links a change cuts: the links that a new link displaces (EMF: EObjectWithInverse.eInverseRemove, eBasicRemoveFromContainer), the
--- links of the values that an end loses, or the links of the objects that a deletion destroys.
+-- links of the values that an end loses, the links of a proxy that is resolved and of its counterpart, or the links of the objects that a
+-- deletion destroys.
 use Rattle.std.specs.Prelude.{ℕ, ◌&&◌, ◌||◌, Bool, false, not, List, [], ◌∷◌, ◌++◌, length, map, nat_lt, Option, fold, Some, None, is_some, option_map, option_to_list, slice_get, if◌then◌else◌}
 use Rattle.std.specs.List.{list_any}
 use Rattle.std.specs.Option.{option_map_or}
@@ -22,7 +23,7 @@ use Rattle.proxies.specs.Resolving.{opposite_end, target_at}
 use Rattle.handshake.specs.declared.change.Change.TheVariants.{At, Delete}
 use Rattle.handshake.specs.declared.act.Act.TheVariants.{Set, Unset, Add, Remove, RemoveValue, Resolve}
 
--- the link of a value in an end of the node n, named by the other end of the link; none if the link has no other end
+-- the link of a value at an end of the node n, named by the other end of the link; none if the link has no other end
 abbrev pub other_side : Node → Value → Option FeatureNo → Option LinkEnd
 other_side n (value.Object o) (Some g) = Some (link_end (far_end o g) (node_value n))
 other_side n _ _ = None
@@ -52,7 +53,7 @@ link_end_in r e i = option_to_list (option_map (link_end e) (slice_get (r.values
 abbrev pub link_ends_if_single : Reading → End → List LinkEnd
 link_ends_if_single r e = if (shape_at r e).is_single then link_ends_at r e else []
 
--- the link that contains a node
+-- the link by which a node is contained, named by the end that contains the node; none if the node is not contained
 abbrev pub holding_link_end : Reading → Node → Option LinkEnd
 holding_link_end r n = option_map (λ d. link_end d (node_value n)) (r.holder n)
 
@@ -64,8 +65,9 @@ with_link_end r ts t = if list_any (same_link r t) ts then ts else ts ++ t ∷ [
 abbrev pub each_link_once : Reading → List LinkEnd → List LinkEnd
 each_link_once r ts = fold (with_link_end r) [] ts
 
--- the links that a new link from e to the object o may displace: the link of the value of e, if e is single; the link of the value of the
--- opposite end, if the opposite end is single; and the link that contains the node that becomes contained
+-- the links that a new link from e to the object o displaces: the link of the value of e, if e is single; the link of the value of the
+-- opposite end, if the opposite end is single; and, if a node becomes contained, the link by which this node was contained so far. A link
+-- can be in this list twice, named by each of its ends
 abbrev pub in_the_way : Reading → End → ObjectNo → List LinkEnd
 in_the_way r e o =
     link_ends_if_single r e
@@ -83,7 +85,7 @@ displaces r e o =
     || (option_map_or (is_taken r) (opposite_end r e o) false
     || option_map_or (λ n. is_some (r.holder n)) (node_contained e o (shape_at r e).containing) false)
 
--- the links that a new link from the end e to the object o displaces
+-- the links that a new link from the end e to the object o displaces, each once
 abbrev pub displaced_link_ends : Reading → End → ObjectNo → List LinkEnd
 displaced_link_ends r e o = each_link_once r (in_the_way r e o)
 
@@ -121,14 +123,15 @@ abbrev pub cut_by_set : Reading → End → Value → List LinkEnd
 cut_by_set r e (value.Object o) = displaced_link_ends r e o
 cut_by_set r e v = link_ends_at r e
 
--- the index of the value that an act takes out of a list, if the act takes a value out
+-- the index of the value that a `Remove` or a `RemoveValue` takes out of a list; none for any other act, or if the list lacks the value of
+-- a `RemoveValue`
 abbrev pub taken_index : Reading → End → Act → Option ℕ
 taken_index r e (Remove i) = Some i
 taken_index r e (RemoveValue v) = first_at r e v
 taken_index r e _ = None
 
--- the links that a change cuts, in order; none for a resolve of all proxies, since the edits of each proxy (`edits_of`) cut the links of
--- that proxy
+-- the links that a change cuts before it makes or moves any link, in order. For a resolve of all proxies the list is empty, since the edits
+-- of each proxy (`edits_of`) begin with the cuts of that proxy's links
 abbrev pub cut_link_ends : Reading → Change → List LinkEnd
 cut_link_ends r (At e (Set v)) = if is_plain_set r e v then [] else cut_by_set r e v
 cut_link_ends r (At e Unset) = if (shape_at r e).is_reference then link_ends_backwards e (r.values e) else []

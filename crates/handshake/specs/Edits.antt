@@ -29,15 +29,15 @@ new_put r e i (value.Object o) = Some (put_of e i o (shape_at r e).opposite (sha
 new_put r e i v = None
 
 -- the edit that a set, an addition or a move makes after its cuts: a set and an addition make a link, and a move moves a value in a list.
--- None if no link is made or moved. If the end is single, the cuts have already taken its old value out
+-- None if no link is made or moved. A set puts its object at the index 0, since the cuts have already taken the old value out
 abbrev pub made_edit : Reading → Change → Option Edit
 made_edit r (At e (Set v)) = if is_plain_set r e v then None else new_put r e 0 v
 made_edit r (At e (Add v i)) = if is_plain_add r e v then None else new_put r e (position_for r e i) v
 made_edit r (At e (Move to from)) = if (shape_at r e).is_reference then Some (Shift e to from) else None
 made_edit r _ = None
 
--- an edit at the opposite end, which is the end of the counterpart c: it moves the new link from the last index of this end to the index of
--- the proxy that the link replaces
+-- the edit that moves a new link at its opposite end, which is the end of the counterpart c. A new link is put after the last value there.
+-- The edit moves the link from this last index to the index that the counterpart had
 abbrev pub back_edit : Reading → Counterpart → Edit
 back_edit r c = Shift c.end c.index (length (r.values c.end) - 1)
 
@@ -52,7 +52,9 @@ edits_of x =
     let e = end_of x.site in
     map cut_of (link_ends_joined x.reads e x.site.index x.target) ++ joining_edits x.reads e x.site.index x.target
 
--- the edits after the cuts: a load makes all links of its document, and a resolve of all proxies resolves them one after another
+-- the edits after the cuts: a resolve of one proxy puts the new link in the place of the proxy and of its counterpart, a resolve of all
+-- proxies resolves the proxies one after another, a load makes all links of its document, and any other change makes the one edit of
+-- `made_edit`, or none
 abbrev pub made_edits : Reading → Change → List Edit
 made_edits r (At e (Resolve i)) = option_map_or (joining_edits r e i) (target_at r e i) []
 made_edits r ResolveAll = flat_map edits_of (resolutions r (sites r))

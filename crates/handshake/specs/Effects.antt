@@ -32,7 +32,7 @@ use Rattle.proxies.specs.Resolving.{target_at}
 
 ---------------------------------------------------------------- values
 
--- the edit that gives an attribute new values; none for a resource, which has no attributes
+-- the edit that gives an attribute of a node new values and a set flag; none for a resource, which has no attributes
 abbrev pub put_under : FeatureNo → List Value → Bool → Node → List ValueEdit
 put_under f vs flag (node.Object o) = PutList o f vs flag ∷ []
 put_under f vs flag (node.Resource k) = []

@@ -51,8 +51,8 @@ notice_at r t = notice_of (shape_at r t.at) t.at t.does (held_at r t.at)
 abbrev pub has_flag : Metamodel → FeatureNo → Bool
 has_flag m f = (shape m f).is_unsettable
 
--- the notifications of feature changes: each notification is computed from the ends so far, and replaying it gives the ends for the next
--- notification
+-- the notifications of feature changes; e is what the ends hold before the first feature change. Each notification is computed from what
+-- the ends hold after the earlier notifications are replayed
 abbrev pub change_notices : Metamodel → Ends → List FeatureChange → List Notice
 change_notices m e [] = []
 change_notices m e (t ∷ ts) =
@@ -76,7 +76,8 @@ values_after_change a Unsets vs = a.default ∷ []
 values_after_change a (Moves to from) vs = list_after_position_move vs (pos from) (pos to)
 values_after_change a (Resolves i v) vs = if a.is_single then v ∷ [] else list_after_resolve vs (pos i) v
 
--- the set flag of an end after a feature change: a gain or loss of an unsettable single end turns it on, and unsetting turns it off
+-- the set flag of an end after a feature change. A gain or a loss at a single end turns the flag on if the end is unsettable, and off if it
+-- is not. Unsetting turns the flag off. Any other feature change leaves the flag as it is
 abbrev pub flag_after_change : Shape → ChangeKind → Bool → Bool
 flag_after_change a (Gains v) b = if a.is_single then a.is_unsettable else b
 flag_after_change a (GainsAt i v) b = b

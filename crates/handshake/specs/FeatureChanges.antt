@@ -1,4 +1,4 @@
--- The feature changes that a change makes, end by end in the order of the notifications, and the chain of these notifications.
+-- The feature changes that a change makes, in the order of their notifications, and the chain of these notifications.
 use Rattle.std.specs.Prelude.{ℕ, zero, suc, ◌&&◌, ◌||◌, Bool, true, false, not, List, [], ◌∷◌, ◌++◌, filter, flat_map, length, map, Option, Some, None, option_to_list, if◌then◌else◌}
 use Rattle.std.specs.Option.{option_map_or}
 use Rattle.mm_types.specs.Same.{node_value, same_end}
@@ -40,18 +40,20 @@ abbrev pub losses : Reading → LinkEnd → List FeatureChange
 losses r t =
     option_map_or (λ u. if is_containment r.metamodel u.end.feature then loss u ∷ loss t ∷ [] else loss t ∷ loss u ∷ []) (opposite_link_end r t) (loss t ∷ [])
 
--- the loss at the far end of a link, if it has a far end; and `far_losses`, the losses at the far ends of several links
+-- the loss at the far end of the link that t names; none if the link has no far end. The far end is the end by which t does not name the
+-- link. And `far_losses`: the losses at the far ends of several links
 abbrev pub far_loss : Reading → LinkEnd → List FeatureChange
 far_loss r t = option_map_or (λ u. loss u ∷ []) (opposite_link_end r t) []
 
 abbrev pub far_losses : Reading → List LinkEnd → List FeatureChange
 far_losses r ts = flat_map (far_loss r) ts
 
--- whether a new link between e and an object replaces the value of d
+-- whether a new link from the end e to the object o replaces the value of the end d: d is single, and is an end of the new link
 abbrev pub is_replaced : Reading → End → ObjectNo → End → Bool
 is_replaced r e o d = (shape_at r d).is_single && (same_end e d || option_map_or (same_end d) (opposite_end r e o) false)
 
--- the losses of a displaced link, without the loss at an end whose value the new link replaces
+-- the losses at the ends of the link t, which a new link from the end e to the object o displaces; a loss is left out if the new link
+-- replaces the lost value
 abbrev pub other_losses : Reading → End → ObjectNo → LinkEnd → List FeatureChange
 other_losses r e o t = filter (λ x. not (is_replaced r e o x.at)) (losses r t)
 
@@ -65,8 +67,9 @@ all_lost e (suc n) = feature_change e (LosesAt n) ∷ all_lost e n
 
 ---------------------------------------------------------------- changes
 
--- the feature changes that come before the end e gains a value; ts are the links that are cut. If e gains an object, these changes are the
--- losses of the displaced links and then the gain of the far end; if e becomes null, they are the losses at the far ends
+-- the feature changes that come before the end e gains a value; ts are the links that are cut. If the value is an object, these changes are
+-- the losses of the displaced links (`other_losses`), and then the gain at the far end of the new link, if the link has a far end. If the
+-- value is no object, these changes are the losses at the far ends of ts
 abbrev pub before_gain : Reading → End → Value → List LinkEnd → List FeatureChange
 before_gain r e (value.Object o) ts = flat_map (other_losses r e o) ts ++ far_gain r e o
 before_gain r e v ts = far_losses r ts
@@ -104,7 +107,7 @@ abbrev pub resolves_one : Change → Bool
 resolves_one (At e (Resolve i)) = true
 resolves_one _ = false
 
--- the target of the proxy that a change resolves
+-- the target of the proxy that a `Resolve` resolves; none for any other change, or if the proxy has no target
 abbrev pub target_of : Reading → Change → Option ResolvedProxy
 target_of r (At e (Resolve i)) = target_at r e i
 target_of r _ = None
@@ -119,16 +122,18 @@ abbrev pub resolves_all : Change → Bool
 resolves_all ResolveAll = true
 resolves_all _ = false
 
--- for a change that resolves all proxies: how many proxies it resolves, and how many are left
+-- for a change that resolves all proxies: how many proxies it resolves (two proxies of one link count as one), and how many proxies are
+-- left
 abbrev pub resolved_by : Reading → Change → Option Resolved
 resolved_by r c = if resolves_all c then Some (record { done = resolved_count r; left = unresolved_count r }) else None
 
--- the losses of an end of another node, in order, when an object and all objects below it are destroyed; the end that contains the object
--- itself loses it later, by `changes_of_delete`
+-- the losses at the end d of a node that remains, in order, when the object o and all objects below o are destroyed. The loss of o itself,
+-- at the end that contains o, is not among them: it comes last in `changes_of_delete`
 abbrev pub lost_with : Reading → ObjectNo → End → List FeatureChange
 lost_with r o d = map (λ v. feature_change d (Loses v)) (filter (is_lost r o d) (r.values d))
 
--- the losses of a deletion: at each end of other nodes in order, and last at the end that contains the object
+-- the losses of a deletion: first those at the ends of the nodes that remain, end by end, and last the loss of the object itself at the end
+-- that contains it
 abbrev pub changes_of_delete : Reading → ObjectNo → List FeatureChange
 changes_of_delete r o =
     flat_map (lost_with r o) (touched_ends r o)

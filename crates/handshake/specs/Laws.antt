@@ -74,7 +74,7 @@ abbrev pub takes_many : Reading → Change → Bool
 takes_many r (At e Unset) = not (shape_at r e).is_single
 takes_many r c = is_some (destroyed_by c) || resolves_all c || is_some (loaded_by c)
 
--- no two feature changes of a list are at the same end
+-- in a list of feature changes, no two are at the same end
 abbrev pub AreApart : List FeatureChange → Type 0
 AreApart [] = Unit {0}
 AreApart (t ∷ ts) = AllByRecursion (λ (u : FeatureChange). t.at ≡ u.at → ⊥) ts × AreApart ts
@@ -92,17 +92,18 @@ is_of_single m t = (shape m t.at.feature).is_single
 abbrev pub TellsNoSingleEndTwice : Model → Change → Type 0
 TellsNoSingleEndTwice = OfAllowed (λ s c. AreApart (filter (is_of_single s.metamodel) (feature_changes (reading s) c)))
 
--- if a list is unset, no two losses are at the same far end of its links, and no far end is the list itself
+-- if the end e is unset, no two losses are at the same far end of e's links, and none of these far ends is e
 abbrev pub FarEndsAreApart : Model → End → Type 0
 FarEndsAreApart s e =
     let far = far_losses (reading s) (cut_link_ends (reading s) (At e Unset)) in
     OfAllowed (λ s c. AreApart (far ++ feature_change e Unsets ∷ [])) s (At e Unset)
 
--- no two link ends of a list name the same link
+-- in a list of link ends, no two name the same link
 abbrev pub AreDifferent : Reading → List LinkEnd → Type 0
 AreDifferent r [] = Unit {0}
 AreDifferent r (t ∷ ts) = AllByRecursion (λ (u : LinkEnd). same_link r u t ≡ false) ts × AreDifferent r ts
 
--- a change cuts no link twice
+-- a change cuts no link of `cut_link_ends` twice; this says nothing about a resolve of all proxies, and nothing about links that a load
+-- makes and cuts again
 abbrev pub CutsNoLinkTwice : Model → Change → Type 0
 CutsNoLinkTwice = OfAllowed (λ s c. AreDifferent (reading s) (cut_link_ends (reading s) c))

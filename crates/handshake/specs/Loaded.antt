@@ -31,10 +31,11 @@ IsWrittenWith doc o f b = (i : ℕ) × (slice_get (values_in doc o f) i ≡ Some
 abbrev pub IsContainer : Metamodel → FeatureNo → FeatureNo → Type 0
 IsContainer m f c = (lookups.is_container m f ≡ true) × ((shape m f).opposite ≡ Some c)
 
--- the objects of a document have the next numbers, in order; r is read before the load, and t after it
+-- the objects of a document have the next numbers, in order, and are as the document says; r is the reading before the load, and t the
+-- reading after it
 pub record HasObjectsOf (r : Reading) (doc : Doc) (t : Reading) : Type 0 where
   pub next : t.next ≡ r.next + length doc.objects
-  -- each object has its class
+  -- each object has the class that the document gives it
   pub classes : (o : ObjectNo) → t.class (loaded_number r.next o) ≡ class_in doc o
   -- an attribute has the values that are written; a single attribute without a written value has its default
   pub attributes : (o : ObjectNo) (f : FeatureNo) → (shape r.metamodel f).is_reference ≡ false

@@ -31,7 +31,7 @@ told_by_each s [] = []
 told_by_each s (p ∷ ps) =
     if is_refused s (resolve p) then told_by_each s ps else chain (reading s) (resolve p) ++ told_by_each (model_after s (resolve p)) ps
 
--- how many proxies are resolved, if the proxies at some locations are resolved one after another
+-- how many proxies are resolved, if the proxies at some locations are resolved one after another; two proxies of one link count as one
 abbrev pub count_of_each : Model → List ProxySite → ℕ
 count_of_each s [] = zero
 count_of_each s (p ∷ ps) = if is_refused s (resolve p) then count_of_each s ps else suc (count_of_each (model_after s (resolve p)) ps)

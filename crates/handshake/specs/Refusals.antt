@@ -1,7 +1,7 @@
 -- Why a change is refused: something that the change names does not exist; or the class of a new object is abstract; or the act doesn't fit
--- the feature; or the change is forbidden by the type or the length of a value, an index, a repeated value, a proxy, a full end, a cycle of
--- containment, a limit, a URI that a resource has already, or a resource that is not empty. All further refusals are found by the
--- repository.
+-- the feature; or the change is forbidden by the type of a value, the length of a text, an index, a repeated value, a proxy that can't be
+-- resolved, a full end, a cycle of containment, a limit, a URI that a resource has already, or a resource that is not empty. All further
+-- refusals are found by the repository.
 use Rattle.std.specs.Prelude.{ℕ, ◌+◌, ◌&&◌, ◌||◌, Bool, false, not, List, length, nat_le, nat_lt, Option, None, Some, is_some, if◌then◌else◌}
 use Rattle.std.specs.Option.{option_map_or}
 use Rattle.mm_types.specs.Conditions.{◌unless◌, ◌where_so◌, ◌else_by◌}
@@ -37,8 +37,8 @@ type_refusal r f v =
     WrongType unless takes r f v else_by
     TextLength unless is_short v
 
--- Whether a new link would put a node into itself or into a node below it. If e is an end of the containment h, its node would contain the
--- object o; otherwise o would contain the node.
+-- Whether a new link from the end e to the object o would put a node into itself or into a node below it. If the feature of e is the
+-- containment h, the node of e would contain o. Otherwise h is the opposite of that feature, and o would contain the node of e.
 abbrev pub is_recursive_for : Reading → End → ObjectNo → FeatureNo → Bool
 is_recursive_for r e o h =
     if same_feature e.feature h then is_within r (node.Object o) e.node else is_within r e.node (node.Object o)
@@ -50,8 +50,8 @@ is_recursive r e o = option_map_or (is_recursive_for r e o) (shape_at r e).conta
 abbrev pub count_at : Reading → End → ℕ
 count_at r e = length (r.values e)
 
--- whether an end has an upper bound above 1 and has reached this bound; and `is_at_limit`, whether an end has as many values as any list
--- may have
+-- whether an end has an upper bound above 1 and has reached this bound; and `is_at_limit`, whether an end has the greatest number of values
+-- that a list may have
 abbrev pub is_full_at : Reading → End → Bool
 is_full_at r e = is_full_list (shape_at r e) (count_at r e)
 
@@ -76,17 +76,18 @@ gain_refusal r e v =
     Bound where_so is_full_at r e else_by
     Limit where_so is_at_limit r e
 
--- why an end can't be set to a value: why it can't gain a link to the value, if the value is an object that the end does not have already.
--- Any other set is not refused here
+-- why an end can't be set to a value. If the value is an object that the end does not have already, the set is refused if the end can't
+-- gain a link to this object. Any other set is not refused here
 abbrev pub set_refusal : Reading → End → Value → Option Refused
 set_refusal r e (value.Object o) = if has_already r e (value.Object o) then None else link_refusal r e o
 set_refusal r e v = None
 
--- why a value can't be added; if a unique list has the value already, the addition is refused only if an index is given
+-- why a value can't be added. If a unique list has the value already, the addition is refused exactly if an index is given. Any other
+-- addition is refused if the end can't gain the value
 abbrev pub add_refusal : Reading → End → Value → Option ℕ → Option Refused
 add_refusal r e v i = if is_repeat r e v then (Duplicate where_so is_some i) else gain_refusal r e v
 
--- why no resource of a URI can be made
+-- why no resource with a URI can be made
 abbrev pub uri_refusal : Reading → List ℕ → Option Refused
 uri_refusal r u =
     TextLength unless is_short_text u else_by
@@ -106,8 +107,8 @@ single_refusal m f = NotSingle unless (shape m f).is_single
 abbrev pub many_refusal : Metamodel → FeatureNo → Option Refused
 many_refusal m f = NotMany where_so (shape m f).is_single
 
--- why an act doesn't fit a feature: a set needs a single feature, and an edit of a list needs a many-valued feature. An unset and a resolve
--- fit every feature
+-- why an act doesn't fit a feature: a set needs a single feature; an addition, a removal and a move need a many-valued feature. An unset
+-- and a resolve fit every feature
 abbrev pub kind_refusal : Metamodel → FeatureNo → Act → Option Refused
 kind_refusal m f (Set v) = single_refusal m f
 kind_refusal m f Unset = None
@@ -121,12 +122,12 @@ value_of (Add v i) = Some v
 value_of (RemoveValue v) = Some v
 value_of _ = None
 
--- why an act at an end is refused: the node does not exist or does not have the feature, or the value of the act is an object that does not
--- live
+-- why an act at an end is refused because of what it names: the node does not exist or does not have the feature, or the value of the act
+-- is an object that does not live
 abbrev pub named_refusal : Reading → End → Act → Option Refused
 named_refusal r e a = option_map_or (value_refusal r e) (value_of a) (end_refusal r e)
 
--- why a value that is to be added to a list, or removed from it, is refused before the change is planned
+-- why an addition of a value at an end, or a removal of a value by `RemoveValue`, is refused before it is planned
 abbrev pub list_refusal : Reading → End → Value → Option Refused
 list_refusal r e v = value_refusal r e v else_by many_refusal r.metamodel e.feature
 

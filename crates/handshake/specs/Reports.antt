@@ -25,7 +25,7 @@ lost_notice r l =
     else notice (shape_at r l.end) l.end (held_at r l.end) kind.Remove l.value value.Null (pos l.position)
 
 -- the notification when the end e gains a root of a document. x has the position of the root, and the root's number in the document; n is
--- the number that the first object of the document gets. The end was set if the position is above 0
+-- the number that the first object of the document gets. `was_set` is true if the position is above 0, since the end then has earlier roots
 abbrev pub root_notice : ℕ → End → ℕ × ObjectNo → Notice
 root_notice n e x =
     record {

@@ -1,14 +1,15 @@
 //! What is done at an end.
 use mm_types::Value;
 
-/// What a change does at an end, which is a feature of a node.
+/// What a change does at an end. An end is a node together with one of its features.
 #[derive(Drop)]
 pub enum Act {
     /// Sets a single feature (EMF: EObject.eSet; MOF 2.5.1: Reflection, Object.set).
     Set(Value),
-    /// Takes a feature back to its default, or empties a list (EMF: EObject.eUnset; MOF 2.5.1: Reflection, Object.unset).
+    /// Takes a single feature back to its default, or empties a list (EMF: EObject.eUnset; MOF 2.5.1: Reflection, Object.unset).
     Unset,
-    /// Adds a value to a list, at an index or after the last value (EMF: EList.add; MOF 2.5.1: Reflection, ReflectiveSequence.add).
+    /// Adds a value to a list, at an index or after the last value. If a unique list has the value already, an addition without an index
+    /// changes nothing (EMF: EList.add; MOF 2.5.1: Reflection, ReflectiveSequence.add).
     Add(Value, Option<u32>),
     /// Takes the value at an index out of a list (EMF: EList.remove; MOF 2.5.1: Reflection, ReflectiveSequence.remove).
     Remove(u32),

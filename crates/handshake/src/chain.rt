@@ -19,7 +19,8 @@ use removal::{Loss, Removal, losses};
 use std::alloc::{AllocError, Global};
 
 /// Adds to `chain` a notification for each value that an end of a remaining node loses by a deletion. `removal` has the object that is
-/// deleted with all objects below it. If memory is refused, `chain` may have some of the notifications.
+/// deleted, all objects below it, and the ends of remaining nodes that lose values. If memory is refused, `chain` may have some of the
+/// notifications.
 pub fn lost_notices<L: LinkStore>(
     alloc: Global,
     model: &ModelRef<L>,
@@ -29,10 +30,11 @@ pub fn lost_notices<L: LinkStore>(
     requires removal { IsRemoval (reading model.now) removal.now }
     ensures { OnOk result (chain.new ≡ chain.old ++ map (lost_notice_of (reading model.now)) (losses_of (reading model.now) removal.now.object)) }
 {
-    each_lost(model, losses(alloc, model, removal)?, chain)
+    each_lost(alloc, model, losses(alloc, model, removal)?, chain)
 }
 
 fn each_lost<L: LinkStore>(
+    alloc: Global,
     model: &ModelRef<L>,
     losses: Vec<Loss>,
     chain: &mut Chain,
@@ -40,7 +42,7 @@ fn each_lost<L: LinkStore>(
     ensures { OnOk result (chain.new ≡ chain.old ++ map (lost_notice_of (reading model.now)) losses.items) }
 {
     for loss in losses {
-        chain.push(lost_notice(model, loss))?;
+        chain.push(alloc, lost_notice(model, loss))?;
     }
     Ok(())
 }
@@ -70,7 +72,7 @@ fn lost_notice<L: LinkStore>(model: &ModelRef<L>, loss: Loss) -> Notice
     }
 }
 
-/// What a notification reports of the end that it names.
+/// What happened at an end, as a notification says it: all of the notification except the end itself and `was_set`.
 #[derive(Drop)]
 pub(crate) struct Report {
     kind: NoticeKind,
@@ -79,7 +81,7 @@ pub(crate) struct Report {
     position: i64,
 }
 
-/// The notification of a feature change, computed in the model before the change.
+/// The notification of a feature change, computed from what the ends hold in `model`, where the feature change is not yet made.
 #[inline(always)]
 pub fn notice<L: LinkStore>(
     alloc: Global,
@@ -102,7 +104,7 @@ pub fn notice<L: LinkStore>(
     })
 }
 
-/// What is reported of the end at which a feature change happens.
+/// The report of the change `does` at the end `at`.
 #[inline(always)]
 fn report_of<L: LinkStore>(
     alloc: Global,
@@ -208,7 +210,7 @@ fn loss<L: LinkStore>(model: &ModelRef<L>, at: End, value: Value) -> Report
     }
 }
 
-/// The position of a value in a list. If the list lacks the value, the position after the last value.
+/// The position of the first occurrence of a value in a list. If the list lacks the value, the position after the last value.
 fn index_of<L: LinkStore>(model: &ModelRef<L>, at: End, value: &Value) -> u32
     ensures { result ≡ index_in ((reading model.now).values at) value.now }
 {

@@ -8,13 +8,13 @@ pub enum ChangeKind {
     Gains(Value),
     /// A list gains the value at an index.
     GainsAt(u32, Value),
-    /// A list loses the value; a single end becomes null.
+    /// A list loses the first occurrence of the value; a single end becomes null.
     Loses(Value),
     /// A list loses the value at an index.
     LosesAt(u32),
     /// A single end gets its default again.
     Unsets,
-    /// In a list, the value at the second index moves to the first index.
+    /// `Moves(to, from)`: the value at the index `from` of a list moves to the index `to`.
     Moves(u32, u32),
     /// The value replaces the proxy at an index; at a single end the index is 0.
     Resolves(u32, Value),

@@ -76,7 +76,8 @@ pub(crate) fn yields<L: LinkStore>(
     Ok(link_ends)
 }
 
-/// If an end is single and has a value, adds the link of this value, unless `link_ends` has that link already.
+/// Adds to `link_ends` the link of the value of a single end. Adds nothing if the end is a list or has no value, or if `link_ends` has that
+/// link already.
 #[inline(always)]
 fn add_held<L: LinkStore>(
     alloc: Global,
@@ -100,7 +101,8 @@ fn add_held<L: LinkStore>(
     }
 }
 
-/// If a node is contained, adds the link that contains the node, unless `link_ends` has that link already.
+/// Adds to `link_ends` the link by which a node is contained. Adds nothing if the node is not contained, or if `link_ends` has that link
+/// already.
 #[inline(always)]
 fn add_holding<L: LinkStore>(
     model: &ModelRef<L>,
@@ -150,7 +152,8 @@ fn contained(meta: &Meta, end: End, object: ObjectNo) -> Option<Node>
     }
 }
 
-/// The links that a change cuts, in order; none for a resolve of all proxies, since the edits of each proxy cut the links of that proxy.
+/// The links that a change cuts before it makes or moves any link, in order. For a resolve of all proxies the list is empty, since the
+/// edits of each proxy begin with the cuts of that proxy's links.
 pub fn cut_link_ends<L: LinkStore>(
     alloc: Global,
     model: &ModelRef<L>,
@@ -212,8 +215,8 @@ fn link_ends_resolved<L: LinkStore>(
     Ok(link_ends)
 }
 
-/// Adds the link of the proxy at the opposite end, which is the counterpart in `target`. Adds nothing if there is no target or no
-/// counterpart.
+/// Adds to `link_ends` the link of the counterpart in `target`. The counterpart is the proxy at the opposite end. Adds nothing if there is
+/// no target or no counterpart.
 pub fn add_counterpart<L: LinkStore>(
     alloc: Global,
     model: &ModelRef<L>,
@@ -342,7 +345,7 @@ fn link_end_in<L: LinkStore>(
     Ok(link_ends)
 }
 
-/// Adds the link of the value that was found at an end, if one was found.
+/// Adds to `link_ends` the link of a value that was found at an end. Adds nothing if `found` is `None`.
 pub fn push_link_end(
     alloc: Global,
     end: End,

@@ -24,9 +24,9 @@ use removal::LinkEnd;
 use std::alloc::{AllocError, Global};
 
 /// Adds to `chain` the notifications of a change, in order. `link_ends` are the links that the change cuts. `target` is the target of the
-/// proxy that the change resolves, if it resolves one. This function is for changes that neither destroy nor load anything, and don't
-/// resolve all proxies. All notifications are computed in the same model, the model before the change. If memory is refused, `chain` may
-/// have some of the notifications.
+/// proxy that the change resolves; `None` if the change resolves no proxy, or if the proxy has no target. This function is for changes that
+/// neither destroy nor load anything, and don't resolve all proxies. All notifications are computed in the same model, the model before the
+/// change. If memory is refused, `chain` may have some of the notifications.
 pub fn notices<L: LinkStore>(
     alloc: Global,
     model: &ModelRef<L>,
@@ -41,8 +41,9 @@ pub fn notices<L: LinkStore>(
     requires one { resolves_all change.now ≡ false }
     ensures { OnOk result (chain.new ≡ chain.old ++ map (notice_at (reading model.now)) (t.feature_changes_with (reading model.now) change.now link_ends.now)) }
 {
-    // the other changes have no feature changes here: the module `chain` makes the notifications of a delete, and in `change_plans` the
-    // module `loads` makes those of a load, and `resolving_all` those of a resolve of all proxies
+    // only an `At`, a `Create` and a `NewResource` come here, and the last two have no notifications. The module `chain` makes the
+    // notifications of a delete. In `change_plans` the module `loads` makes the notifications of a load, and the module `resolving_all`
+    // those of a resolve of all proxies
     match change {
         Change::At(end, act) => push_act(alloc, model, *end, act, link_ends, target, chain),
         _ => Ok(()),
@@ -73,7 +74,7 @@ fn push_act<L: LinkStore>(
     }
 }
 
-/// Adds the notifications of an unset: the losses at the far ends, and then the changes of `end`.
+/// Adds the notifications of an unset: first the losses at the far ends of the links that are cut, and then the changes of `end`.
 fn push_unset<L: LinkStore>(
     alloc: Global,
     model: &ModelRef<L>,
@@ -189,7 +190,7 @@ fn push_value_taken_out<L: LinkStore>(
     }
 }
 
-/// Adds the notifications of an end that is unset: a single end gets its default again, and a list loses each value, the last one first.
+/// Adds the notifications at the end that is unset: a single end gets its default again, and a list loses each value, the last one first.
 fn push_emptied<L: LinkStore>(
     alloc: Global,
     model: &ModelRef<L>,
@@ -249,7 +250,8 @@ fn push_cuts<L: LinkStore>(
     }
 }
 
-/// Adds the notification of the loss at the far end of each link that has a far end. `link_ends` names the links by their near ends.
+/// Adds the notification of the loss at the far end of each link of `link_ends`. The far end of a link is the end by which `link_ends` does
+/// not name the link. A link that has no far end adds nothing.
 fn push_far_losses<L: LinkStore>(
     alloc: Global,
     model: &ModelRef<L>,
@@ -278,14 +280,15 @@ fn push_far_loss<L: LinkStore>(
     }
 }
 
-/// A new link between an end and an object.
+/// A new link from an end to an object.
 #[derive(Clone, Copy)]
 struct AddedLink {
     end: End,
     object: ObjectNo,
 }
 
-/// Adds the notifications of the losses of displaced links, without the loss at an end whose value the new link replaces.
+/// Adds the notifications of the losses at the ends of the links that the new link displaces; a loss is left out if the new link replaces
+/// the lost value.
 fn push_other_losses<L: LinkStore>(
     alloc: Global,
     model: &ModelRef<L>,
@@ -301,8 +304,8 @@ fn push_other_losses<L: LinkStore>(
     Ok(())
 }
 
-/// Adds the notifications of the losses at both ends of a displaced link, without the loss at an end whose value the new link replaces. If
-/// one of the ends is a containment, the loss at this end comes first.
+/// Adds the notifications of the losses at the ends of a link that the new link displaces; a loss is left out if the new link replaces the
+/// lost value. If one of the ends is a containment, the loss at this end comes first.
 fn push_losses<L: LinkStore>(
     alloc: Global,
     model: &ModelRef<L>,
@@ -322,7 +325,8 @@ fn push_losses<L: LinkStore>(
     }
 }
 
-/// Adds the notifications of the losses at both ends of a link; a loss is left out if a new link replaces the lost value.
+/// Adds the notifications of the losses at the ends `first` and `second` of a link, in this order; a loss is left out if the new link
+/// replaces the lost value.
 fn push_both<L: LinkStore>(
     alloc: Global,
     model: &ModelRef<L>,
@@ -338,7 +342,7 @@ fn push_both<L: LinkStore>(
     Ok(())
 }
 
-/// Adds the notification of a loss, unless a new link replaces the lost value.
+/// Adds the notification of a loss, unless the new link replaces the lost value.
 fn push_other_loss<L: LinkStore>(
     alloc: Global,
     model: &ModelRef<L>,
@@ -389,6 +393,5 @@ fn push<L: LinkStore>(
 ) -> Result<(), AllocError>
     ensures { OnOk result (chain.new ≡ chain.old ++ map (notice_at (reading model.now)) (record { at = at; does = does } ∷ [])) }
 {
-    chain.push(notice(alloc, model, FeatureChange { at, does })?)?;
-    Ok(())
+    chain.push(alloc, notice(alloc, model, FeatureChange { at, does })?)
 }

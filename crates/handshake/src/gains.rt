@@ -46,7 +46,7 @@ pub fn link_refusal<L: LinkStore>(
     None
 }
 
-/// Whether an end is full, or the opposite end `far` is, if there is one.
+/// Whether `end`, or its opposite end `far`, if there is one, has an upper bound above 1 and has reached this bound.
 fn is_either_full<L: LinkStore>(model: &ModelRef<L>, end: End, far: Option<End>) -> bool
     ensures { result ≡ (refusals.is_full_at (reading model.now) end || option_map_or (refusals.is_full_at (reading model.now)) far false) }
 {

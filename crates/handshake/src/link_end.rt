@@ -11,7 +11,7 @@ use models::{ModelRef, is_same};
 use proxies::opposite_end;
 use removal::LinkEnd;
 
-/// A node as a value; null for a resource, which is the value of no end.
+/// A node as a value; null for a resource, since no end has a resource as a value.
 pub(crate) fn node_value(node: Node) -> Value
     ensures { result ≡ same.node_value node }
 {

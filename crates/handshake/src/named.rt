@@ -16,9 +16,9 @@ use models::{ModelRef, class_refusal, end_refusal, node_refusal, value_refusal};
 /// Why a change is refused before it is planned: something that the change names does not exist, the class of a new object is abstract, or
 /// the act doesn't fit the feature.
 ///
-/// `NoObject` if the node, or the value, is an object that does not live; `NoResource` or `NoClass` if the resource or the class does not
-/// exist; `Abstract` if the class is abstract; `NoFeature` if the node does not have the feature; `NotSingle` if a value is set under a
-/// many-valued feature; `NotMany` if a list is edited under a single feature.
+/// `NoObject` if the node, or the value, is an object that does not live; `NoResource` if the resource does not exist; `NoClass` if the
+/// class does not exist; `Abstract` if the class is abstract; `NoFeature` if the node does not have the feature; `NotSingle` if the act is
+/// a set, and the feature is many-valued; `NotMany` if the act is an addition, a removal or a move, and the feature is single.
 pub fn early_refusal<L: LinkStore>(model: &ModelRef<L>, change: &Change) -> Option<Refused>
     ensures { result ≡ refusals.early_refusal (reading model.now) change.now }
 {
@@ -38,8 +38,8 @@ fn act_early_refusal<L: LinkStore>(model: &ModelRef<L>, end: End, act: &Act) -> 
     named_refusal(model, end, act).or(kind_refusal(model.meta(), end.feature, act))
 }
 
-/// Why an act at an end is refused: the node does not exist or does not have the feature, or the value of the act is an object that does
-/// not live.
+/// Why an act at an end is refused because of what it names: the node does not exist or does not have the feature, or the value of the act
+/// is an object that does not live.
 fn named_refusal<L: LinkStore>(model: &ModelRef<L>, end: End, act: &Act) -> Option<Refused>
     ensures { result ≡ refusals.named_refusal (reading model.now) end act.now }
 {
@@ -53,8 +53,8 @@ fn named_refusal<L: LinkStore>(model: &ModelRef<L>, end: End, act: &Act) -> Opti
     }
 }
 
-/// Why an act doesn't fit a feature: `NotSingle` for a set of a many-valued feature, `NotMany` for an edit of a list under a single
-/// feature. An unset and a resolve fit every feature.
+/// Why an act doesn't fit a feature: `NotSingle` for a set of a many-valued feature; `NotMany` for an addition, a removal or a move at a
+/// single feature. An unset and a resolve fit every feature.
 fn kind_refusal(meta: &Meta, feature: FeatureNo, act: &Act) -> Option<Refused>
     ensures { result ≡ refusals.kind_refusal meta.now feature act.now }
 {
@@ -80,8 +80,8 @@ pub fn set_early_refusal<L: LinkStore>(
     value_refusal(model, end, value).or(single_refusal(model.meta(), end.feature))
 }
 
-/// Why an addition of a value at an end, or a removal of this value, is refused before it is planned: `NoObject`, `NoResource`, `NoFeature`
-/// or `NotMany`. The caller needs no `Change` for this.
+/// Why an addition of a value at an end, or a removal of a value by `RemoveValue`, is refused before it is planned: `NoObject`,
+/// `NoResource`, `NoFeature` or `NotMany`. The caller needs no `Change` for this.
 #[inline(always)]
 pub fn list_early_refusal<L: LinkStore>(
     model: &ModelRef<L>,

@@ -8,7 +8,8 @@ use links::LinkStore;
 use mm_types::{End, Node, ObjectNo};
 use models::ModelRef;
 
-/// Whether a link from `end` to `object` would put one of the two nodes into itself, or into a node below it. Takes no memory.
+/// Whether a link from `end` to `object` would put `object`, or the node of `end`, into itself or into a node that is below it. Takes no
+/// memory.
 pub(crate) fn is_recursive<L: LinkStore>(model: &ModelRef<L>, end: End, object: ObjectNo) -> bool
     ensures { result ≡ refusals.is_recursive (reading model.now) end object }
 {

@@ -1,8 +1,8 @@
-//! Labels: numbers of the values of a list. They go up along the list, or nearly so. By its label a value is found without going through
-//! the list.
+//! Labels: numbers of the values of a list. The labels go up along the list, or nearly so. With its label a value can be found without
+//! going through the list.
 //!
 //! A label is a hint: the caller looks whether the value is at the index that was found. When all values of a list get new labels, the
-//! label of the first value is `MIDDLE`, and each further label is greater by `GAP`.
+//! label of the first value is `MIDDLE`, and each further label is greater than the label before it by `GAP`.
 ghost use Rattle.std.specs.Prelude.{◌-◌, ◌<◌, ◌≤◌};
 
 /// The distance between the labels of two values that are put in at the end one after the other.
@@ -148,7 +148,7 @@ impl Span {
         self.low + (before as usize).min(places - 1)
     }
 
-    /// The indexes that are left after a search for `label` found the different label `found` at `middle`.
+    /// The indexes that are left after a search for `label` has found a different label, `found`, at the index `middle`.
     fn rest(self, middle: usize, found: u64, label: u64) -> Self
         requires low { self.low ≤ middle }
         requires high { middle < self.high }

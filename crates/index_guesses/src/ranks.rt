@@ -1,8 +1,9 @@
-//! Guesses at the index of a value in a list that is in the order of its values' ranks.
+//! Guesses at the index of a value in a list that is in the order of its values' ranks. A rank is a number that a value has by itself, for
+//! example the number of an object.
 
 /// A guess at the index of `rank` among the `len` ranks that `rank_at` gives. The guess is right if `rank` is the first or the last rank.
 /// It is also right if each index has a rank, the ranks rise or fall along the list, and `rank` is one of these ranks. Otherwise the guess
-/// may be any index.
+/// may be any index; for an empty list it is 0.
 pub fn by_rank<F: Fn(usize) -> Option<u64>>(len: usize, rank: u64, rank_at: F) -> usize
     requires { F.IsAlwaysCallable rank_at }
 {

@@ -4,12 +4,12 @@ use Rattle.std.specs.Borrow.{Bor}
 use Rattle.std.specs.List.{All}
 use Rattle.journal.specs.declared.entries.TheConstants.{MARK, NEWLINE}
 
--- the lines, with the byte c added at the beginning of the first line; no lines if there is no line
+-- a list of lines, with the byte c added at the beginning of the first line; an empty list stays empty
 abbrev pub with_byte : ℕ → List (List ℕ) → List (List ℕ)
 with_byte c [] = []
 with_byte c (l ∷ ls) = (c ∷ l) ∷ ls
 
--- the lines that end with a newline, without the newlines
+-- the lines of some bytes, each without the newline that ends it; bytes after the last newline are no line
 abbrev pub ended_lines : List ℕ → List (List ℕ)
 ended_lines [] = []
 ended_lines (c ∷ cs) = if c == NEWLINE then [] ∷ ended_lines cs else with_byte c (ended_lines cs)
@@ -27,7 +27,7 @@ recovered_lines file = marked_lines (ended_lines file)
 abbrev pub IsLine : List ℕ → Type 0
 IsLine l = All (λ c. c ≢ NEWLINE) l
 
--- a line as a file has it: a mark, the line, and a newline
+-- the entry of a line in a file: a mark, the line, and a newline
 abbrev pub entry : List ℕ → List ℕ
 entry l = MARK ∷ l ++ NEWLINE ∷ []
 
@@ -44,25 +44,27 @@ at_rest ls = entries ls ++ NEWLINE ∷ []
 abbrev pub AreEntries : List ℕ → Type 0
 AreEntries bytes = bytes ≡ entries (recovered_lines bytes)
 
--- Some bytes are a line, its newline, and a rest.
+-- The bytes `bytes` are the line `line`, a newline, and the bytes `rest`. No newline is in the line.
 pub record IsCut (bytes line rest : List ℕ) : Type 0 where
   pub bytes_are : bytes ≡ line ++ NEWLINE ∷ rest
   pub in_line : IsLine line
 
--- the result of a cut is the first line and the rest, or none if no line ends with a newline
+-- the result of taking the first line off some bytes: the line without its newline, and the bytes after the newline; none if there is no
+-- newline in the bytes
 abbrev pub CutsLine : Option (Bor (List ℕ) × Bor (List ℕ)) → List ℕ → Type 0
 CutsLine None bytes = ended_lines bytes ≡ []
 CutsLine (Some p) bytes = IsCut bytes p.0.now p.1.now
 
--- Bytes that begin with the entry of a line; the other bytes are the rest.
+-- The bytes `bytes` begin with the entry of the line `line`, and `rest` is the bytes after this entry. The lines that are recovered from
+-- `bytes` are `line`, and then the lines that are recovered from `rest`.
 pub record IsEntry (bytes line rest : List ℕ) : Type 0 where
   pub bytes_are : bytes ≡ MARK ∷ line ++ NEWLINE ∷ rest
   pub in_line : IsLine line
   pub lines_are : recovered_lines bytes ≡ line ∷ recovered_lines rest
   pub shorter : length rest < length bytes
 
--- the result of cutting the first entry off some bytes: the line of this entry, and the bytes after the entry; none if the bytes stand for
--- no line
+-- the result of taking the first entry off some bytes: the line of this entry, and the bytes after the entry; none if no line is recovered
+-- from the bytes
 abbrev pub CutsEntry : Option (Bor (List ℕ) × Bor (List ℕ)) → List ℕ → Type 0
 CutsEntry None bytes = recovered_lines bytes ≡ []
 CutsEntry (Some p) bytes = IsEntry bytes p.0.now p.1.now

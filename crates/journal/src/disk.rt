@@ -12,7 +12,7 @@ pub enum DiskFault {
     Memory,
     /// A call of the system failed.
     Failed,
-    /// The file is as long as it may be.
+    /// The entries of the journal's file have 2^62 bytes or more, so the file gets no more entries. No call of a disk returns this fault.
     Full,
 }
 
@@ -35,25 +35,27 @@ impl<T: Drop> From<AllocFailed<T>> for DiskFault {
 /// A file that is written, cut and synced. After a write or a cut that failed, the content of the file is unknown. After any call that
 /// failed, the file has to be opened again.
 ///
-/// The clauses speak of a crash at any moment, between two calls or inside one. Until a sync, a crash may leave any bytes in the range of a
-/// write. Until a sync after a cut, a crash may leave any length from the new length of the file up to its old length.
+/// The clauses speak of a crash at any moment, between two calls or inside one. Until a sync after a write, a crash may leave any bytes in
+/// the range of the write; if the write made the file longer, a crash may leave a file of any length from the old length up to the new one.
+/// Until a sync after a cut, a crash may leave a file of any length from the new length up to the old one.
 pub trait Disk {
     /// The bytes of the file, as a program reads them now.
     ghost seen: { Self → List ℕ };
 
-    /// A crash now may leave a file of these bytes.
+    /// A crash now may leave a file that has the given bytes.
     ghost may_leave: { Self → List ℕ → Type 0 };
 
     /// The current moment, as a number. It never falls.
     ghost moment: { Self → ℕ };
 
-    /// A crash at a given moment, or at a later moment up to now, might have left a file of these bytes.
+    /// A crash at the given moment, or at a later moment up to now, might have left a file that has the given bytes.
     ghost left_since: { Self → ℕ → List ℕ → Type 0 };
 
-    /// How many calls of the disk failed.
+    /// A count of the failed calls of the disk. A call that returns `Failed` makes the count greater, and no call makes it smaller.
     ghost faults: { Self → ℕ };
 
-    /// Writes bytes from an offset on, over the bytes of the file. A write that reaches beyond the end of the file makes the file longer.
+    /// Writes `bytes` over the bytes of the file, from the offset `at` on. A write that reaches beyond the end of the file makes the file
+    /// longer.
     fn write_at(&mut self, at: usize, bytes: &[u8]) -> Result<(), DiskFault>
         requires { at ≤ length (seen self.old) }
         ensures written { OnOk result (Overwrites at bytes.now (seen self.old) (seen self.new)) }
@@ -61,7 +63,7 @@ pub trait Disk {
         ensures time { Elapses (moment self.old) (moment self.new) (left_since self.old) (left_since self.new) (may_leave self.new) }
         ensures cause { HasCause (faults self.old) (faults self.new) result };
 
-    /// Cuts the file to a length.
+    /// Cuts the file to the length `len`.
     fn cut(&mut self, len: usize) -> Result<(), DiskFault>
         requires { len ≤ length (seen self.old) }
         ensures cut { OnOk result (seen self.new ≡ take len (seen self.old)) }
@@ -69,7 +71,7 @@ pub trait Disk {
         ensures time { Elapses (moment self.old) (moment self.new) (left_since self.old) (left_since self.new) (may_leave self.new) }
         ensures cause { HasCause (faults self.old) (faults self.new) result };
 
-    /// Puts the file on the disk: from then on, until the next write or cut, a crash leaves the file as it is.
+    /// Puts the file on the disk. After a sync that succeeded, and until the next write or cut, a crash leaves the file as it is.
     fn sync(&mut self) -> Result<(), DiskFault>
         ensures durable { OnOk result (IsDurable (seen self.old) (may_leave self.new)) }
         ensures seen { seen self.new ≡ seen self.old }
@@ -80,6 +82,6 @@ pub trait Disk {
     /// If a crash now may leave a file of the bytes `c`, then `left_since` is true of `c` for each moment up to now.
     ghost counts_now: { (file : Self) (t : ℕ) (c : List ℕ) → t ≤ moment file → may_leave file c → left_since file t c };
 
-    /// A crash may have left a file since the current moment only if a crash may leave this file now.
+    /// If `left_since` is true of the bytes `c` for the current moment, then a crash now may leave a file of the bytes `c`.
     ghost only_now: { (file : Self) (c : List ℕ) → left_since file (moment file) c → may_leave file c };
 }

@@ -5,7 +5,8 @@ ghost use Rattle.journal.specs.Lines.{CutsEntry, CutsLine, entries, entry, recov
 use memchr::memchr;
 use std::alloc::AllocError;
 
-/// The first byte of an entry. A line of the file that begins with any other byte does not count, and neither do the lines after it.
+/// The first byte of an entry. If a line of a file does not begin with this byte, neither that line nor any line after it is recovered from
+/// the file.
 pub(crate) const MARK: u8 = b' ';
 
 /// The last byte of an entry.
@@ -21,7 +22,8 @@ fn cut_line(bytes: &[u8]) -> Option<(&[u8], &[u8])>
     }
 }
 
-/// The first line that the bytes of a file stand for, and the bytes after its entry. `None` if the bytes stand for no line.
+/// The first line that is recovered from the bytes of a file, and the bytes after the entry of this line. `None` if no line is recovered
+/// from the bytes.
 pub fn next_entry(bytes: &[u8]) -> Option<(&[u8], &[u8])>
     ensures { CutsEntry result bytes.now }
 {
@@ -31,7 +33,7 @@ pub fn next_entry(bytes: &[u8]) -> Option<(&[u8], &[u8])>
     }
 }
 
-/// The total length of the entries at the front of a file, in bytes.
+/// The total length, in bytes, of the entries at the front of a file: the entries of the lines that are recovered from the file.
 pub(crate) fn entries_len(bytes: &[u8]) -> usize
     ensures split { bytes.now ≡ entries (recovered_lines bytes.now) ++ drop result bytes.now }
     ensures len { result ≡ length (entries (recovered_lines bytes.now)) }

@@ -1,5 +1,5 @@
-//! Lines are noted, and then committed. A line is acknowledged when it is committed: from then on a crash at any moment leaves a file that
-//! has the line.
+//! A journal notes lines, and a commit writes all noted lines to the disk. A commit that succeeds acknowledges its lines: from then on a
+//! crash at any moment leaves a file that has these lines.
 ghost use Rattle.std.specs.Prelude.{◌≡◌, ◌<◌, ◌≤◌, ◌^◌, ◌++◌, [], ◌∷◌, drop, length, true, IfErr, IfOk, IsErrOf, OnErr, OnOk};
 ghost use Rattle.journal.specs.Disk.{IsDurable, LeavesOnly};
 ghost use Rattle.journal.specs.Journal.{IsBeforeOrAfter, IsSettled, StandsFor, disk_of, journal_lines, noted_lines};
@@ -18,13 +18,13 @@ pub struct Journal<D: Disk> {
     disk: D,
     /// How many bytes the entries of the file have.
     end: usize,
-    /// The entries of the lines that were noted.
+    /// The entries of the lines that were noted since the last commit.
     pending: Vec<u8>,
 }
 
-/// Puts new entries after the entries of a file. The entries of the file have `end` bytes; `text` is the new entries and an empty line. The
-/// function first writes the text without its first mark. When these bytes are on the disk, it writes the mark over the empty line with
-/// which the file ended.
+/// Puts new entries after the entries of a file. The entries of the file have `end` bytes, and an empty line follows them; `text` is the
+/// new entries and an empty line. The function first writes `text` without its first byte, a mark, after the empty line of the file. When
+/// these bytes are on the disk, the function writes the mark over the newline that is the empty line.
 fn append<D: Disk>(disk: &mut D, end: usize, text: &[u8]) -> Result<(), DiskFault>
     requires file { D.seen disk.old ≡ at_rest (recovered_lines (D.seen disk.old)) }
     requires end { end ≡ length (entries (recovered_lines (D.seen disk.old))) }
@@ -41,8 +41,8 @@ fn append<D: Disk>(disk: &mut D, end: usize, text: &[u8]) -> Result<(), DiskFaul
     ensures full { IsErrOf result DiskFault.Full → ⊥ }
 {
     disk.write_at(end + 1, &text[1..])?;
-    // If a crash comes before this sync has ended, the file may have whole lines that were never noted. So the mark that makes the lines
-    // count is written only after the sync.
+    // If a crash comes before this sync has ended, the file may have whole lines that were never noted. So the mark, without which no new
+    // line is recovered, is written only after the sync.
     disk.sync()?;
     disk.write_at(end, &[MARK])?;
     disk.sync()
@@ -61,8 +61,8 @@ fn repair<D: Disk>(disk: &mut D, end: usize) -> Result<(), DiskFault>
     ensures full { IsErrOf result DiskFault.Full → ⊥ }
 {
     disk.cut(end)?;
-    // If a crash interrupts the write of the newline, it may leave a mark instead, and then the lines after it would count. So these lines
-    // have to be gone from the disk before the newline is written.
+    // A crash during the write of the newline may leave a mark instead of the newline. If lines came after the mark, they would then be
+    // recovered. So these lines have to be gone from the disk before the newline is written.
     disk.sync()?;
     disk.write_at(end, &[NEWLINE])?;
     disk.sync()
@@ -76,7 +76,8 @@ fn is_ended(bytes: &[u8], end: usize) -> bool
     bytes.len() - end == 1 && bytes[end] == NEWLINE
 }
 
-/// Repairs the end of a file whose bytes are `bytes` and whose entries have `end` bytes. A file that needs no repair is not written.
+/// Repairs the end of a file whose bytes are `bytes` and whose entries have `end` bytes. A file that has only an empty line after its
+/// entries needs no repair, and is not written.
 fn settle<D: Disk>(disk: &mut D, bytes: &[u8], end: usize) -> Result<(), DiskFault>
     requires bytes { D.seen disk.old ≡ bytes.now }
     requires split { bytes.now ≡ entries (recovered_lines bytes.now) ++ drop end bytes.now }
@@ -95,14 +96,15 @@ fn settle<D: Disk>(disk: &mut D, bytes: &[u8], end: usize) -> Result<(), DiskFau
     repair(disk, end)
 }
 
-/// Opens the journal in a file whose bytes are `bytes`. The file may have any bytes, also bytes that a crash left. The lines that are
-/// recovered from the file stay in it, and an empty line replaces the bytes after their entries. No line is recovered from an empty file.
+/// Opens the journal in a file whose bytes are `bytes`. The file may have any bytes, also bytes that a crash left. The entries of the lines
+/// that are recovered from the file stay in it, and an empty line replaces all bytes after these entries. No line is recovered from an
+/// empty file.
 ///
-/// Fails with `Failed` only if a call of the disk failed, and never with `Full`. An error returns the disk too. A crash at any moment of
-/// the call leaves a file from which the same lines are recovered.
+/// Fails with `Failed` only if a call of the disk failed, with `Memory` only if a call of the disk returns `Memory`, and never with `Full`.
+/// An error returns the disk too. A crash at any moment of the call leaves a file from which the same lines are recovered as from `bytes`.
 pub fn open<D: Disk>(alloc: Global, mut disk: D, bytes: &[u8]) -> Result<Journal<D>, (DiskFault, D)>
     requires bytes { D.seen disk ≡ bytes.now }
-    // After a restart, the bytes that are read are the bytes on the disk.
+    // All bytes of the file are on the disk: a crash before the first write or cut leaves the file as it is.
     requires durable { IsDurable (D.seen disk) (D.may_leave disk) }
     ensures settled { IfOk result (λ journal. IsSettled D.seen D.may_leave journal) }
     ensures kept { IfOk result (λ journal. journal_lines D.seen journal ≡ recovered_lines bytes.now) }
@@ -144,10 +146,10 @@ impl<D: Disk> Journal<D> {
     }
 
     /// Writes the noted lines to the disk, all of them or none. `Ok` acknowledges the lines: from then on a crash leaves a file that has
-    /// them. After an error the file is to be opened again.
+    /// them. After an error the file has to be opened again.
     ///
     /// Fails with `Failed` only if a call of the disk failed, with `Full` only if the entries of the file have 2^62 bytes or more, and with
-    /// `Memory` if memory is refused. Without noted lines the call does nothing, and succeeds.
+    /// `Memory` if memory is refused. If no line is noted, the call does nothing, and succeeds.
     pub fn commit(&mut self) -> Result<(), DiskFault>
         requires { IsSettled D.seen D.may_leave self.old }
         ensures settled { OnOk result (IsSettled D.seen D.may_leave self.new) }
@@ -175,7 +177,7 @@ impl<D: Disk> Journal<D> {
         Ok(())
     }
 
-    /// The disk of the journal. Lines that were noted and not committed are lost.
+    /// The disk of the journal. The journal ends, and lines that were noted and not committed are lost.
     pub fn into_disk(self) -> D
         ensures { result ≡ disk_of self }
     {

@@ -1,4 +1,4 @@
-//! Dialogues whose journal is on a disk that stops.
+//! Tests of dialogues whose journal is on a disk that stops: after a number of calls, every further call of the disk fails.
 ghost use Rattle.std.specs.Prelude.{⊤};
 
 use crate::journals::lines_of;
@@ -43,10 +43,10 @@ impl Session for Counter {
 
 const INPUT: &[u8] = b"+a\n?c\n+b\n!d\n+e\n";
 
-/// The answers that are written for the input.
+/// The answers that a dialogue writes for `INPUT`.
 const WRITTEN: &[u8] = b"ok\n\n1\n\nok\n\nno\n\nok\n\n";
 
-/// The file of the journal after the whole input was run.
+/// The bytes of the journal's file after the whole input was run.
 const FILE: &[u8] = b" +a\n +b\n +e\n\n";
 
 /// How many calls of the disk it takes to open a journal in a new file.
@@ -62,7 +62,7 @@ fn lines_kept(count: u8) -> &'static [u8] {
     }
 }
 
-/// How many kept lines were answered: the lines whose whole answer is in the first `written` bytes of `WRITTEN`.
+/// How many kept lines were answered: the number of kept lines whose whole answer is in the first `written` bytes of `WRITTEN`.
 fn answered(written: usize) -> u8 {
     match written {
         0..=3 => 0,
@@ -104,8 +104,8 @@ fn run(alloc: Global, size: usize, calls: u64, seed: u64) -> Result<Left, Fail> 
     })
 }
 
-/// How many lines a new session counts if it replays a file; `None` if the replay fails, since a line is not kept again or memory is
-/// refused.
+/// How many lines a new session counts if it replays the file of a journal. `None` if the replay fails: a line of the file is not kept
+/// again, or memory is refused.
 fn replayed(alloc: Global, file: &[u8]) -> Option<u8> {
     let mut session = Counter { count: 0 };
     match replay(alloc, &mut session, file) {
@@ -135,8 +135,9 @@ fn lines_that_come_in_together_are_put_on_the_disk_together(rt: HostRuntime) -> 
     Ok(())
 }
 
-/// Stops a dialogue after `calls` calls of the disk, and checks that the file has the kept lines that were answered, and that a replay of
-/// the file runs its lines. The file may also have the lines of the commit that failed; `more` is the number of kept lines of a commit.
+/// Stops a dialogue after `calls` calls of the disk. Checks that the fault is `Journal`, that the answers are a prefix of `WRITTEN`, and
+/// that the file has the kept lines that were answered. The file may also have all lines of the commit that failed; `more` is the number of
+/// kept lines of a commit. Checks too that a replay of the file by a new session counts exactly the lines of the file.
 fn check(
     rt: &impl Abort,
     alloc: Global,
@@ -189,6 +190,6 @@ fn what_was_answered_comes_back(rt: HostRuntime) -> Result<(), Fail> {
 #[test]
 fn a_line_that_is_not_done_again_is_refused(rt: HostRuntime) {
     assert_eq!(rt; replayed(rt.alloc(), b" +a\n no\n +b\n\n"), None);
-    // A line after an empty line does not count, so it is not run.
+    // A line after an empty line is not recovered, so it is not run.
     assert_eq!(rt; replayed(rt.alloc(), b" +a\n\n no\n"), Some(1));
 }

@@ -1,4 +1,4 @@
-//! A journal is opened and written, and its disk crashes.
+//! Tests that open a journal, write it, and look at the file that a crash leaves.
 ghost use Rattle.std.specs.Prelude.{◌≡◌, true};
 ghost use Rattle.journal.specs.Lines.{IsLine};
 ghost use Rattle.journal.specs.Journal.{IsSettled};
@@ -62,7 +62,7 @@ fn commits(journal: &mut Journal<TornDisk>) -> Result<usize, AllocError>
 /// The bytes of the file after the three commits; these bytes are also a script.
 const WHOLE: &[u8] = b" new Book\n set #0 name \"Emma\"\n set #0 pages 100\n  unset #0 pages\n\n";
 
-/// The lines of the file after `commits` commits, each followed by a bar.
+/// The lines of the file after `commits` commits, with a bar after each line.
 fn lines_after(commits: usize) -> &'static [u8] {
     match commits {
         0 => b"",
@@ -105,9 +105,9 @@ fn a_journal_that_no_call_stops_is_a_script(rt: HostRuntime) -> Result<(), Fail>
     Ok(())
 }
 
-/// Opens the file `left` on five disks, which stop after 0 to 4 calls. The recovery of a file that needs a repair makes four calls, so each
-/// of these calls fails on one disk, and on the fifth disk no call fails. The recovery of any other file makes no call. Checks that each
-/// file that a second crash leaves has the lines `lines`.
+/// Opens the file `left` on five disks, which stop after 0, 1, 2, 3 and 4 calls. The recovery of a file that needs a repair makes four
+/// calls, so each of these calls fails on one disk, and on the fifth disk no call fails. The recovery of a file that needs no repair makes
+/// no call. Checks that each of the five files that a second crash leaves has exactly the lines `lines`.
 fn check_recovery(
     rt: &impl Abort,
     alloc: Global,
@@ -126,9 +126,10 @@ fn check_recovery(
     Ok(())
 }
 
-/// Crashes after `calls` calls. Checks that the file has the lines of the commits that succeeded and, beyond these lines, either no line or
-/// all lines of the next commit; and that a crash during the recovery of the file keeps its lines. Returns whether the file has the lines
-/// of the next commit.
+/// Makes the three commits in a new file, on a disk that stops after `calls` calls, and takes the file that a crash then leaves. Checks
+/// that the file has the lines of the commits that succeeded and, beyond these lines, either no line or all lines of the next commit.
+/// Checks too that a second crash, during the recovery of the file, leaves a file with the same lines. Returns whether the file has the
+/// lines of the next commit.
 fn has_more(rt: &impl Abort, alloc: Global, calls: u64, seed: u64) -> Result<bool, Fail> {
     let (done, left) = run(alloc, calls, seed)?;
     let lines = lines_of(alloc, left.as_slice())?;

@@ -1,4 +1,5 @@
-//! Tests of the journal and of dialogues over it, with a disk that stops at any call and leaves torn writes.
+//! Tests of the journal, of dialogues over a journal, and of how often a read may wait. The journals are on a disk that stops at any call
+//! and leaves torn writes.
 #![tactic(auto)]
 
 #[cfg(test)]

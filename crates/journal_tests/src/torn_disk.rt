@@ -1,18 +1,19 @@
-//! A disk that stops, and the file that a crash leaves of it.
+//! A disk that stops, and the file that a crash leaves on the disk.
 ghost use Rattle.std.specs.Prelude.{◌≡◌, IfOk, if◌then◌else◌};
 ghost use Rattle.journal.specs.Disk.{HasCause};
 
 use journal::{Disk, DiskFault};
 use std::alloc::{AllocError, Global};
 
-/// A disk on which a number of calls succeed, and all further calls fail. A crash may leave the call that failed, and the calls since the
-/// last sync, done only in part. The clauses of this disk say nothing of a crash: a test looks at the file that `left` returns.
+/// A disk that stops: a number of its calls succeed, and all further calls fail. Until a sync succeeds, a crash may leave each write and
+/// each cut done only in part, also a write or a cut that failed. The clauses of this disk say nothing of a crash: a test looks at the file
+/// that `left` returns.
 #[derive(Drop)]
 pub(crate) struct TornDisk {
     alloc: Global,
     bytes: Vec<u8>,
     synced: Vec<u8>,
-    /// All bytes that were written since the last sync are from this offset on, and before the offset `to`.
+    /// All bytes that were written since the last sync are at this offset or after it, and before the offset `to`.
     from: usize,
     to: usize,
     calls_left: u64,
@@ -20,8 +21,9 @@ pub(crate) struct TornDisk {
     random: u64,
 }
 
-/// A byte in the range of a torn write. It is, by `pick`, the old byte, the new byte, a space or a newline. Each entry of a journal begins
-/// with a space. If there is no old byte, a newline takes its place; if there is no new byte, a space.
+/// A byte in the range of a torn write. If `pick` is 0, the result is the old byte, or a newline if there is no old byte. If `pick` is 1,
+/// the result is the new byte, or a space if there is no new byte. If `pick` is 2, the result is a space, with which each entry of a
+/// journal begins. For any other `pick` the result is a newline.
 fn torn(old: Option<u8>, new: Option<u8>, pick: u64) -> u8 {
     match pick {
         0 => old.unwrap_or(b'\n'),
@@ -32,7 +34,8 @@ fn torn(old: Option<u8>, new: Option<u8>, pick: u64) -> u8 {
 }
 
 impl TornDisk {
-    /// A disk that has the bytes, all of them synced, and that stops after `calls` calls. Its random choices depend on `seed`.
+    /// A disk whose file has the bytes `bytes`, all of them synced, and that stops after `calls` calls. The random choices of the disk
+    /// depend on `seed`.
     pub(crate) fn new(
         alloc: Global,
         bytes: &[u8],
@@ -68,7 +71,7 @@ impl TornDisk {
         self.random >> 33
     }
 
-    /// Whether byte `k` may be torn.
+    /// Whether a crash may leave a torn byte (`torn`) at the offset `k`.
     fn is_torn(&self, k: usize) -> bool {
         k >= self.synced.len() || (k >= self.from && k < self.to)
     }
@@ -95,7 +98,8 @@ impl TornDisk {
         Ok(image)
     }
 
-    /// Counts a call that succeeds. Once the disk has stopped, fails instead: the first time with `Failed`, and then with `Memory`.
+    /// Counts a call that succeeds. If the disk has stopped, the call fails instead: the first such call with `Failed`, and each later call
+    /// with `Memory`.
     fn spend(&mut self) -> Result<(), DiskFault>
         ensures bytes { self.new.bytes ≡ self.old.bytes }
         ensures cause { HasCause (if self.old.has_failed then 1 else 0) (if self.new.has_failed then 1 else 0) result }
@@ -111,7 +115,7 @@ impl TornDisk {
         Err(DiskFault::Failed)
     }
 
-    /// Records that the bytes from one offset to another were written and are not synced.
+    /// Records that the bytes from the offset `from` on, and before the offset `to`, were written and are not synced.
     fn touch(&mut self, from: usize, to: usize)
         ensures bytes { self.new.bytes ≡ self.old.bytes }
         ensures faults { self.new.has_failed ≡ self.old.has_failed }

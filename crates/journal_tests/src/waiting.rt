@@ -1,4 +1,4 @@
-//! How often `before_wait` is called while a line is read.
+//! Tests how often `before_wait` is called while a line is read.
 ghost use Rattle.std.specs.Prelude.{⊤};
 
 use script_streams::{RunFault, Waits, read_line_waiting};
@@ -54,7 +54,7 @@ impl Waits for Counted {
     }
 }
 
-/// How often a read may wait until a line of two bytes is read, if each read gives at most `size` bytes.
+/// How many reads may wait while a line of two bytes and its newline are read, if each read gives at most `size` bytes.
 fn waits_for_a_line(alloc: Global, size: usize) -> Result<u64, Fail> {
     let mut reader = BufReader::new(alloc, Pieces::new(b"+a\n+b\n", size))?;
     let mut counted = Counted { waits: 0 };

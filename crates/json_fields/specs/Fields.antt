@@ -1,4 +1,5 @@
--- A layout is a list of fields. A field describes a key that an object may have: whether it is required, and how its value is read.
+-- A layout is a list of fields. A field describes a key that an object may have: whether the key is required, and how the value of the key
+-- is read.
 use Rattle.std.specs.Prelude.{ℕ, ◌≡◌, ◌&&◌, ◌++◌, ℤ, Bool, true, false, List, [], ◌∷◌, Option, Some, None, Result, Ok, Err, if◌then◌else◌, option_and_then, option_map}
 use Rattle.std.specs.List.{list_any}
 use Rattle.std.specs.Str.{bytes_eq}
@@ -12,14 +13,14 @@ infixl 10 ◌>>=◌
 abbrev pub ◌>>=◌ : {A B : Type 0} → Option A → (A → Option B) → Option B
 o >>= f = option_and_then f o
 
--- What a function that reads JSON returns: the value in `reading`, or `Layout` if `reading` is none. It may return `Memory` instead,
--- whatever `reading` is.
+-- What a function that reads JSON returns: the value in `reading`, or the fault `Layout` if `reading` is none. The function may return the
+-- fault `Memory` instead, whatever `reading` is.
 abbrev pub Gives : {X : Type 0} → Result X ReadFault → Option X → Type 0
 Gives (Ok x) reading = reading ≡ Some x
 Gives (Err Layout) reading = reading ≡ None
 Gives (Err Memory) reading = Unit {0}
 
--- the value if it passes the test, else none
+-- the value in o if it passes the test `passes`; none if it does not, or if o is none
 infixl 5 ◌such_that◌
 abbrev pub ◌such_that◌ : {X : Type 0} → Option X → (X → Bool) → Option X
 o such_that passes = option_and_then (λ x. if passes x then Some x else None) o
@@ -30,7 +31,8 @@ o such_that passes = option_and_then (λ x. if passes x then Some x else None) o
 abbrev pub text : Data → Option (List ℕ)
 text = as_str
 
--- for a key that may be absent: `Some` of the value that is read, so that `None` can be the value of the field if the key is absent
+-- `Some` of the value that `reading` reads; none if `reading` reads none. For a field whose key may be absent: the value of the field can
+-- then be `None` if the key is absent
 abbrev pub given_value : {X : Type 0} → (Data → Option X) → Data → Option (Option X)
 given_value reading d = option_map Some (reading d)
 
@@ -46,7 +48,7 @@ whole_number d = as_number d >>= as_i64 such_that is_of_bits 32
 abbrev pub whole_number_of_64 : Data → Option ℤ
 whole_number_of_64 d = as_number d >>= as_i64 such_that is_of_bits 64
 
--- the text `wanted`; none for any other value
+-- reads only the text `wanted`: `Some tt` for this text, and none for any other value
 abbrev pub word : List ℕ → Data → Option (Unit {0})
 word wanted d = do
   found ← as_str d
@@ -89,20 +91,20 @@ pub record Fields (X : Type 0) : Type 0 where
   pub keys : List (List ℕ)
   pub reading : Data → Option X
 
--- a key that has to be there
+-- a field whose key has to be there; nothing is read from an object without the key
 abbrev pub required_field : {X : Type 0} → List ℕ → (Data → Option X) → Fields X
 required_field key reading = record { keys = key ∷ []; reading = required_at key reading }
 
--- a key that may be absent; `absent` is the value of the field if the key is absent
+-- a field whose key may be absent; `absent` is the value of the field if the key is absent
 abbrev pub optional_field : {X : Type 0} → List ℕ → (Data → Option X) → X → Fields X
 optional_field key reading absent = record { keys = key ∷ []; reading = optional_at key reading absent }
 
--- a layout without fields, which gives x; if fields are added with `also`, x is a function of the values that they read
+-- a layout without fields, which gives x; if fields are added with `also`, x is a function of the values that these fields read
 abbrev pub makes : {X : Type 0} → X → Fields X
 makes x = record { keys = []; reading = λ d. Some x }
 
 -- adds a field: `fields` reads a function from an object, `field` reads a value from the same object, and the function is applied to the
--- value
+-- value; none if one of the two reads none
 infixl 10 ◌also◌
 abbrev pub ◌also◌ : {A B : Type 0} → Fields (A → B) → Fields A → Fields B
 fields also field = record {
@@ -119,7 +121,7 @@ abbrev pub keys_of : Members → List (List ℕ)
 keys_of no_members = []
 keys_of (member k d ms) = k ∷ keys_of ms
 
--- whether each key is among the names
+-- whether each key of an object is among the names
 abbrev pub only_keys : List (List ℕ) → Members → Bool
 only_keys names no_members = true
 only_keys names (member k d ms) = list_any (λ n. bytes_eq n k) names && only_keys names ms
@@ -132,10 +134,10 @@ object_has_only names None = false
 abbrev pub has_only : List (List ℕ) → Data → Bool
 has_only names d = object_has_only names (as_object d)
 
--- an object that has only the keys of the fields
+-- what the fields read from an object that has only keys of the fields; none for any other value
 abbrev pub object_of : {X : Type 0} → Fields X → Data → Option X
 object_of fields d = if has_only fields.keys d then fields.reading d else None
 
--- a member whose key is not among `names` is the same in the objects `old` and `new`
+-- a key that is not among `names` has the same value in the objects `old` and `new`, or is absent in both
 abbrev pub KeepsOthers : List (List ℕ) → Members → Members → Type 0
 KeepsOthers names old new = (k : List ℕ) → list_any (λ n. bytes_eq n k) names ≡ false → get_member k new ≡ get_member k old

@@ -1,4 +1,4 @@
-//! JSON objects are read by their fields. A field describes a key: whether it is required, and how its value is read.
+//! JSON objects are read by their fields. A field describes a key: whether the key is required, and how the value of the key is read.
 //!
 //! `specs/Fields.antt` defines fields, and how values are read. The functions of this crate find and take the members of an object, for
 //! crates that read values of `serde_json`.

@@ -1,4 +1,4 @@
-//! The members of a JSON object are taken by their keys.
+//! Finds and takes the members of a JSON object by their keys, and tests the keys.
 ghost use Rattle.std.specs.Prelude.{◌≡◌, ◌||◌, ◌++◌, [], ◌∷◌, Some, None, is_some, map, option_map, option_and_then, string_bytes, if◌then◌else◌};
 ghost use Rattle.std.specs.List.{list_all, list_any};
 ghost use Rattle.std.specs.Str.{bytes_eq};
@@ -30,7 +30,7 @@ fn all_keys_among(members: &Map<String, Value>, names: &[&str], more: &[&str]) -
         .all(|key| is_one_of_either(key.as_str(), names, more))
 }
 
-/// Whether the keys of an object are all among some names. Takes no memory.
+/// Whether each key of an object is among `names`. Takes no memory.
 pub fn has_only_keys(members: &Map<String, Value>, names: &[&str]) -> bool
     ensures { result ≡ only_keys (map (λ n. n.now) names.now) (members_view members.now.entries) }
 {
@@ -66,7 +66,7 @@ pub fn only_members_of(value: Value, names: &[&str]) -> Option<Map<String, Value
     Some(members)
 }
 
-/// Takes out the value of a key; `None` if the key is absent. Takes no memory.
+/// Takes the member with the key `key` out of an object, and returns its value; `None` if the key is absent. Takes no memory.
 pub fn take(members: &mut Map<String, Value>, key: &str) -> Option<Value>
     ensures value { option_map view result ≡ get_member key.now (members_view members.old.entries) }
     ensures others { KeepsOthers (key.now ∷ []) (members_view members.old.entries) (members_view members.new.entries) }

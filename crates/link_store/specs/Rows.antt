@@ -1,4 +1,5 @@
--- The list of links of a `RowStore`, each of which is a row: the links that a scan of the list finds, and how a link is renumbered.
+-- The list of links of a `RowStore`; each link of the list is a row. Here are the values, positions and ends that a scan of the list finds,
+-- and how a link is renumbered.
 use Rattle.std.specs.Prelude.{ℕ, ◌+◌, ◌<◌, ◌^◌, ⊤, ◌++◌, ◌==◌, Bool, true, false, List, [], ◌∷◌, fold, insert, Option, Some, None, MatchOption, option_and_then, if◌then◌else◌}
 use Rattle.std.specs.Option.{option_map, option_map_or}
 use Rattle.std.specs.List.{prefix_len}
@@ -24,7 +25,7 @@ changed_index (Raise i) k = raise i k
 changed_index (Lower i) k = lower i k
 changed_index (Shift to from) k = shifted_index to from k
 
--- the position k is so small that the renumbered position fits 32 bits
+-- the position k is so small that the position after the renumbering fits 32 bits; for `Lower`, any k
 abbrev pub CanChange : Renumbering → ℕ → Type 0
 CanChange (Raise i) k = k + 1 < 2 ^ 32
 CanChange (Lower i) k = ⊤
@@ -37,17 +38,17 @@ CanMove r e l = MatchOption (indexed_value l e) ⊤ (λ p. CanChange r p.0)
 abbrev pub index_of : Option (ℕ × Value) → Option ℕ
 index_of p = option_map (λ q. q.0) p
 
--- the position in the end e of the first link that has the value v in e
+-- the position in the end e of the first link that has the value v in e; none if no link has v in e
 abbrev pub position_in : List Link → End → Value → Option ℕ
 position_in [] e v = None
 position_in (l ∷ ls) e v = if has_value e v l then index_of (indexed_value l e) else position_in ls e v
 
--- whether the position in p is k. Here and below, p is the position and the value that a link has in an end, or none if the link is not in
--- the end
+-- whether the position in p is k; false if p is none. Here and below, p is the position and the value that a link has in an end, or none if
+-- the link is not in the end
 abbrev pub is_index : ℕ → Option (ℕ × Value) → Bool
 is_index k p = option_map_or (λ q. q.0 == k) p false
 
--- the object that is the value in p; none if p is none, or if the value is no object
+-- the object that is the value in p, an optional pair of a position and a value; none if p is none, or if the value is no object
 abbrev pub object_on : Option (ℕ × Value) → Option ObjectNo
 object_on p = option_and_then (λ (q : ℕ × Value). object_of q.1) p
 
@@ -57,12 +58,12 @@ abbrev pub first_object : List Link → End → ℕ → Option ObjectNo
 first_object [] e k = None
 first_object (l ∷ ls) e k = if is_index k (indexed_value l e) then object_on (indexed_value l e) else first_object ls e k
 
--- the text of the proxy that is the value in p; none if p is none, or if the value is no proxy
+-- the text of the proxy that is the value in p, an optional pair of a position and a value; none if p is none, or if the value is no proxy
 abbrev pub text_on : Option (ℕ × Value) → Option (List ℕ)
 text_on p = option_and_then (λ (q : ℕ × Value). text_of q.1) p
 
--- the text of the proxy at position k of the end e: of the value that the first link with this position in e has there. None if no link has
--- this position, or if the value is no proxy
+-- the text of the proxy at position k of the end e; the proxy is the value that the first link with this position in e has there. None if
+-- no link has this position, or if the value is no proxy
 abbrev pub first_text : List Link → End → ℕ → Option (List ℕ)
 first_text [] e k = None
 first_text (l ∷ ls) e k = if is_index k (indexed_value l e) then text_on (indexed_value l e) else first_text ls e k

@@ -1,4 +1,4 @@
-//! The positions of an object in the ends that have it.
+//! The positions of an object in the ends that have the object.
 ghost use Rattle.std.specs.Prelude.{◌≡◌, ◌++◌, IfOk, OnOk};
 ghost use Rattle.link_store.specs.Rows.{places_in};
 ghost use Rattle.links.specs.Found.{entry_if};
@@ -21,8 +21,8 @@ fn push_place(position: Option<u32>, end: End, out: &mut Vec<Incoming>) -> Resul
     Ok(())
 }
 
-/// The ends of `ends` in which some link has `value`. Each of these ends comes with a position: the first link that has `value` in the end
-/// has this position there.
+/// The ends of `ends` in which some link has `value`, each with the position of `value` there. If several links have `value` in an end, the
+/// first of them in `rows` gives the position.
 pub(crate) fn places_of(
     alloc: Global,
     rows: &[Link],

@@ -1,4 +1,4 @@
-//! The stores of links: `RowStore` keeps a list of links, which it scans, and `SlotStore` keeps a list at both ends of each link.
+//! The stores of links: `RowStore` keeps one list of links, which it scans, and `SlotStore` keeps a list of values for each end.
 #![tactic(auto)]
 
 mod incoming;

@@ -16,7 +16,8 @@ pub(crate) enum Renumbering {
 impl Renumbering {
     ghost use Rattle.link_store.specs.Rows.{changed_index, CanChange};
 
-    /// The position that the value at position `k` has after the renumbering.
+    /// The position that the value at position `k` gets by the renumbering. The value that `Lower(k)` takes out has no new position; for it
+    /// the result is `k`.
     pub fn changed(self, k: u32) -> u32
         requires { CanChange self k }
         ensures { result ≡ changed_index self k }

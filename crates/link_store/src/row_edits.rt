@@ -14,7 +14,7 @@ use crate::rows::{has, len_of, positions_of};
 use links::{Edit, Far, Link, NewLink};
 use mm_types::{End, FeatureNo, Node, ObjectNo, Text, Value};
 
-/// Changes the position that a link has in an end. A link that is not in the end stays as it is.
+/// Changes the position that a link has in an end, by the renumbering `by`. A link that is not in the end stays as it is.
 fn move_row(link: &mut Link, end: End, by: Renumbering)
     requires { CanMove by end link.old }
     ensures { link.new ≡ renumbered_link link.old end (changed_index by) }
@@ -28,7 +28,7 @@ fn move_row(link: &mut Link, end: End, by: Renumbering)
     }
 }
 
-/// Changes the position of each link that is in an end.
+/// Changes the position of each link that is in an end, by the renumbering `by`.
 fn renumber(rows: &mut Vec<Link>, end: End, by: Renumbering)
     requires { All (CanMove by end) rows.old.items }
     ensures rows { rows.new.items ≡ map (λ l. renumbered_link l end (changed_index by)) rows.old.items }
@@ -73,8 +73,8 @@ fn cut_row(rows: &mut Vec<Link>, end: End, value: &Value)
     }
 }
 
-/// The link between the position `i` of the end `x` and the position `j` of the end `y`. The end with the lower feature number is the
-/// link's own end.
+/// The link between the position `i` of the end `x` and the position `j` of the end `y`. The near end of the link (`Link::end`) is the end
+/// whose feature has the lower number.
 fn join(x: End, i: u32, y: End, j: u32, container: Option<FeatureNo>) -> Link
     ensures { result ≡ joined_link x i y j container }
 {
@@ -95,7 +95,7 @@ fn join(x: End, i: u32, y: End, j: u32, container: Option<FeatureNo>) -> Link
     }
 }
 
-/// The new link of a put. At the opposite end, if there is one, the link gets the position after the last value.
+/// The new link of a put (`Edit::Put`). In the opposite end, if there is one, the link gets the position after the last value.
 fn new_row(rows: &[Link], link: NewLink) -> Link
     requires placed { IsPlaced (set.from_list rows.now) }
     ensures { result ≡ new_link (set.from_list rows.now) link.end link.index link.object link.opposite link.container }

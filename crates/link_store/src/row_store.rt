@@ -1,12 +1,14 @@
 //! The store that keeps its links in one list, and scans the list.
 ghost use Rattle.std.specs.Prelude.{◌≡◌, ◌+◌, ◌≤◌, length, vec_len, vec_capacity};
 ghost use Rattle.std.specs.FinSet as set;
+ghost use Rattle.links.specs.LegalSets.{IsLegalSet};
+ghost use Rattle.links.specs.Plans.{PlanFits, links_after_edits};
 
 use crate::incoming::places_of;
 use crate::row_edits::{edit_rows, put_row};
 use crate::rows::{ends_of, holder_in, len_of, object_in, position_of, text_in};
-use links::{Incoming, Link, LinkStore, NewLink, Plan, put_in_order};
-use mm_types::{End, Node, ObjectNo, Value};
+use links::{Edit, Incoming, Link, LinkStore, NewLink, Plan, put_in_order};
+use mm_types::{End, FewItems, Node, ObjectNo, Value};
 use std::alloc::{AllocError, Global};
 
 /// Links in a list, in which each link is a row. A link is found by a scan of the list from its first row.
@@ -67,8 +69,9 @@ impl LinkStore for RowStore {
     }
 
     fn apply(&mut self, plan: Plan) {
-        for edit in plan.into_vec() {
-            edit_rows(&mut self.rows, edit);
+        match plan.into_items() {
+            FewItems::One(edit) => edit_rows(&mut self.rows, edit),
+            FewItems::Many(edits) => apply_edits(&mut self.rows, edits),
         }
     }
 
@@ -76,5 +79,17 @@ impl LinkStore for RowStore {
         self.rows.reserve(1)?;
         put_row(&mut self.rows, link);
         Ok(())
+    }
+}
+
+/// Makes edits, in their order.
+fn apply_edits(rows: &mut Vec<Link>, edits: Vec<Edit>)
+    requires legal { IsLegalSet (set.from_list rows.old.items) }
+    requires fits { PlanFits (set.from_list rows.old.items) edits.items }
+    requires room { vec_len rows.old + length edits.items ≤ vec_capacity rows.old }
+    ensures { set.from_list rows.new.items ≡ links_after_edits (set.from_list rows.old.items) edits.items }
+{
+    for edit in edits {
+        edit_rows(rows, edit);
     }
 }

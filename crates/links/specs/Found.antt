@@ -1,4 +1,4 @@
--- The entries that a search finds in ends.
+-- The entries (`Incoming`) that a search finds in ends.
 use Rattle.std.specs.Prelude.{ℕ, ◌++◌, List, [], ◌∷◌, Option, Some, None}
 use Rattle.mm_types.specs.declared.end.End.{End}
 use Rattle.links.specs.declared.incoming.Incoming.{Incoming}

@@ -19,8 +19,8 @@ is_far_node (At d j) n = same_node d.node n
 is_far_node (Alone o) n = same_node (node.Object o) n
 is_far_node (Proxy t) n = false
 
--- the far end d of a link, if d contains the node n: the feature of d is the containing feature h, and n is the node `near` at the near
--- side. Otherwise none
+-- the far end d of a link, if d contains the node n; else none. d contains n if the feature of d is the containing feature h, and n is the
+-- node `near` of the near end
 abbrev pub far_holding : Far → FeatureNo → Node → Node → Option End
 far_holding (At d j) h near n = if same_feature d.feature h && same_node near n then Some d else None
 far_holding (Alone o) h near n = None
@@ -52,7 +52,8 @@ abbrev pub node_contained : End → ObjectNo → Option FeatureNo → Option Nod
 node_contained e o None = None
 node_contained e o (Some h) = Some (if same_feature h e.feature then node.Object o else e.node)
 
--- the end that contains the node of `node_contained` after the object o is put into the end e; none if there is no containing feature
+-- the end that contains the node that `node_contained` gives, after the object o is put into the end e; none if there is no containing
+-- feature
 abbrev pub end_containing : End → ObjectNo → Option FeatureNo → Option End
 end_containing e o None = None
 end_containing e o (Some h) = Some (if same_feature h e.feature then e else far_end o h)
@@ -64,17 +65,18 @@ abbrev pub nearest_nodes_above : (Node → Option End) → ℕ → Node → List
 nearest_nodes_above up zero n = []
 nearest_nodes_above up (suc k) n = option_map_or (λ (e : End). e.node ∷ nearest_nodes_above up k e.node) (up n) []
 
--- the nodes above the node n, the nearest first. The number of steps is at most the number of links. In a set without cycles this is
--- enough, since no chain of holders is longer (`IsForest`)
+-- the nodes above the node n, the nearest first, at most as many as there are links. In a legal set without a cycle these are all nodes
+-- above n, since no chain of holders is longer than the number of links (`IsForest`)
 unfoldable pub above : Links → Node → List Node
 above s n = nearest_nodes_above (holder s) (set.len s) n
 
--- the node that is reached from the node x by a given number of steps of `holder`; none if a step finds no holder
+-- the node that is reached from the node x by a given number of steps; each step goes from a node to the node of its holder. None if a step
+-- begins at a node without a holder
 abbrev pub climb : Links → ℕ → Node → Option Node
 climb s zero x = Some x
 climb s (suc n) x = option_and_then (λ (e : End). climb s n e.node) (holder s x)
 
--- the node y is reached from the node x by one or more steps of `holder`
+-- the node y is reached from the node x by one or more steps of `climb`
 abbrev pub IsUnder : Links → Node → Node → Type 0
 IsUnder s x y = (n : ℕ) × (climb s (suc n) x ≡ Some y)
 

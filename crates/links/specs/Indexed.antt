@@ -9,7 +9,7 @@ use Rattle.links.specs.declared.link.Far.{Far}
 use Rattle.links.specs.declared.link.Far.TheVariants.{At, Alone, Proxy}
 use Rattle.links.specs.declared.link.Link.{Link}
 
--- the value that a link has in its near end: the node, the object or the proxy of its far side
+-- the value that a link has in its near end: the node of its far end, its object or its proxy
 abbrev pub far_value : Far → Value
 far_value (At d j) = node_value d.node
 far_value (Alone o) = value.Object o
@@ -48,7 +48,7 @@ bare_far (At d j) = At d 0
 bare_far (Alone o) = Alone o
 bare_far (Proxy t) = Proxy t
 
--- the link with both of its positions set to 0; edits of other links change only positions, so they do not change the result of this
+-- the link with each of its positions set to 0; edits of other links change only positions, so they do not change the result of this
 -- function
 abbrev pub link_without_positions : Link → Link
 link_without_positions l = record { end = l.end; index = 0; far = bare_far l.far; container = l.container }

@@ -20,14 +20,15 @@ use Rattle.mm_types.specs.Lists.{values_after_move}
 use Rattle.links.specs.Indexed.{indexed_value}
 use Rattle.links.specs.Plans.{Has, Lacks}
 
--- d is the far end of a put: the end of the object that is put, under the opposite
+-- d is the far end, if the object o is put into an end whose feature has the opposite g: the end of o under g. No d is the far end if the
+-- feature has no opposite
 abbrev pub IsFar : ObjectNo → Option FeatureNo → End → Type 0
 IsFar o None d = ⊥
 IsFar o (Some g) d = far_end o g ≡ d
 
--- after the object o is put at position i in the end e, e has o at i, the far end has e's node as a new last value, and each other end is
--- as it was; the node that the new link contains has the containing end as its holder. g is the opposite of e's feature, if it has one, and
--- c is the containing feature
+-- after the object o is put at position i in the end e, e has o as a new value at i, the far end has e's node as a new last value, and each
+-- other end is as it was. If the new link contains a node, the containing end is the holder of this node; all other holders are as they
+-- were. g is the opposite of e's feature, and c is the containing feature, if there are such features
 pub record PutMakes (s : Links) (e : End) (i : ℕ) (o : ObjectNo) (g c : Option FeatureNo) : Type 0 where
   pub near : end (put s e i o g c) e ≡ insert (end s e) i (value.Object o)
   pub far : (d : End) → IsFar o g d → end (put s e i o g c) d ≡ end s d ++ node_value e.node ∷ []
@@ -64,26 +65,27 @@ pub record PutGives (s : Links) (e : End) (i : ℕ) (o : ObjectNo) (g c : Option
   pub ends : (d : End) → end (put s e i o g c) d ≡ put_end s e i o g d
   pub holders : (n : Node) → holder (put s e i o g c) n ≡ put_holder s e o g c n
 
--- if a put makes a node x contained, the node that then contains x is neither x nor below x
+-- if a put makes a node x contained, the node that then contains x is not x, and is not below x before the put
 abbrev pub IsPutOutside : Links → End → ObjectNo → Option FeatureNo → Type 0
 IsPutOutside s e o c =
     (x : Node) (d : End) → node_contained e o c ≡ Some x → end_containing e o c ≡ Some d
     → (same_node d.node x ≡ false) × (list_any (same_node x) (above s d.node) ≡ false)
 
--- after a put of a proxy, the proxy is at its position, and all else is as it was
+-- after a proxy with the text t is put at position i in the end e, e has the proxy as a new value at i, and each other end and all holders
+-- are as they were
 pub record PutProxyMakes (s : Links) (e : End) (i : ℕ) (t : List ℕ) : Type 0 where
   pub near : end (put_proxy s e i t) e ≡ insert (end s e) i (value.Proxy t)
   pub others : (d : End) → (e ≡ d → ⊥) → end (put_proxy s e i t) d ≡ end s d
   pub holders : (n : Node) → holder (put_proxy s e i t) n ≡ holder s n
 
--- a cut takes the link's value out of each end that has the link, and the node that the link contained then has no holder; the link can be
--- named by its value at either end
+-- after the link l is cut, each end that had l has lost l's value there; if l contained a node, this node has no holder; all other ends and
+-- holders are as they were. A cut can name l by any end that has l, and l's value in that end
 pub record CutMakes (s : Links) (l : Link) : Type 0 where
   pub named : (e : End) (k : ℕ) (v : Value) → indexed_value l e ≡ Some (k, v) → cut_value s e v ≡ cut s l
   pub ends : (d : End) → end (cut s l) d ≡ list_without (end s d) (indexed_value l d)
   pub holders : (n : Node) → holder (cut s l) n ≡ option_map_or (λ x. None) (holding_end l n) (holder s n)
 
--- after a shift, one value of one end is at its new position, and all else is as it was
+-- after a shift, the end e has its values in the order that `values_after_move` gives, and each other end and all holders are as they were
 pub record ShiftMakes (s : Links) (e : End) (to from : ℕ) : Type 0 where
   pub near : end (shift s e to from) e ≡ values_after_move (end s e) to from
   pub others : (d : End) → (e ≡ d → ⊥) → end (shift s e to from) d ≡ end s d
@@ -121,8 +123,8 @@ without_all s ts = fold (λ t x. cut_value t x.0 x.1) s ts
 abbrev pub kept_holder : Kinds → List (End × Value) → Node → Option End → Option End
 kept_holder m ts n o = option_and_then (λ (d : End). if is_named m ts d (node_value n) then None else Some d) o
 
--- after the link that has the value v in the end e is cut, each end of this link has lost the link's value, and the node that the link
--- contained has no holder; all else is as it was
+-- after the link that has the value v in the end e is cut, each end of this link has lost the link's value; if the link contained a node,
+-- this node has no holder; all else is as it was
 pub record CutByNameMakes (m : Kinds) (s : Links) (e : End) (v : Value) : Type 0 where
   pub ends : (d : End) → end (cut_value s e v) d ≡ filter (λ w. not (names m e v d w)) (end s d)
   pub holders : (n : Node) → holder (cut_value s e v) n ≡ option_and_then (λ (d : End). if names m e v d (node_value n) then None else Some d) (holder s n)
@@ -157,13 +159,13 @@ goes gone (value.Object o) = gone (node.Object o)
 goes gone _ = false
 
 -- a node that is removed has empty ends, and each other end loses the objects that are removed; a node has no holder if it is removed, or
--- if the node of its holder is removed; no link names a node that is removed
+-- if the node of its holder is removed; all other holders are as they were; no link names a node that is removed
 pub record WithoutNodesMakes (s : Links) (gone : Node → Bool) : Type 0 where
   pub ends : (d : End) → end (without_nodes s gone) d ≡ (if gone d.node then [] else filter (λ v. not (goes gone v)) (end s d))
   pub holders : (n : Node) → holder (without_nodes s gone) n ≡ option_and_then (λ (d : End). if gone d.node || gone n then None else Some d) (holder s n)
   pub untouched : (l : Link) → In l (without_nodes s gone) → touches gone l ≡ false
 
--- the pairs of the list name exactly the links of the nodes that are removed; each pair has an end and a value of that end
+-- the pairs of the list name exactly the links that name a removed node; each pair has an end and a value of that end
 abbrev pub NameLinksOf : Kinds → Links → (Node → Bool) → List (End × Value) → Type 0
 NameLinksOf m s gone ts = (d : End) (w : Value) → Has s d w → is_named m ts d w ≡ (gone d.node || goes gone w)
 

@@ -78,8 +78,8 @@ FarOfKind m f (At d j) = (m.opposite f ≡ Some d.feature) × (m.opposite d.feat
 FarOfKind m f (Alone o) = m.opposite f ≡ None
 FarOfKind m f (Proxy t) = Unit {0}
 
--- a link agrees with the opposite and the containment of its feature; if the link is between two ends, its near end is the end with the
--- lower feature number
+-- a link agrees with the opposite and the containing feature that the kinds give for the feature of its near end; if the link is between
+-- two ends, its near end is the end with the lower feature number
 pub record IsOfKind (m : Kinds) (l : Link) : Type 0 where
   pub far : FarOfKind m l.end.feature l.far
   pub container : l.container ≡ m.container l.end.feature

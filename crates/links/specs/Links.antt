@@ -1,4 +1,4 @@
--- Sets of links and proxies: the ends that they give, and their edits.
+-- Sets of links and proxies: the values that a set gives each end, and the edits of a set.
 use Rattle.std.specs.Prelude.{◌≡◌, ℕ, zero, suc, ◌-◌, ◌==◌, Bool, true, false, nat_lt, max, List, [], ◌∷◌, map, filter, find, fold, remove, length, slice_get, Option, Some, None, option_and_then, if◌then◌else◌}
 use Rattle.std.specs.List.{cons_option}
 use Rattle.std.specs.Option.{option_map_or}
@@ -58,7 +58,7 @@ values_from ls e k (suc n) = cons_option (value_at ls e k) (values_from ls e (su
 abbrev pub values : List Link → End → List Value
 values ls e = values_from ls e 0 (length_at ls e)
 
--- the values of the end e, each at the index that is its position
+-- the values of the end e, in the order of their positions; in a legal set each value is at the index that is its position
 unfoldable pub end : Links → End → List Value
 end s e = values (set.items s) e
 
@@ -99,7 +99,7 @@ lowered_far s (At d j) = renumbered_links s d (lower j)
 lowered_far s (Alone o) = s
 lowered_far s (Proxy t) = s
 
--- takes the link l out, and lowers the later positions at its ends
+-- takes the link l out, and lowers the later positions at its ends by one
 unfoldable pub cut : Links → Link → Links
 cut s l = lowered_far (renumbered_links (set.remove s l) l.end (lower l.index)) l.far
 
@@ -143,8 +143,8 @@ put_proxy s e i t = set.insert (renumbered_links s e (raise i)) (new_proxy e i t
 unfoldable pub shift : Links → End → ℕ → ℕ → Links
 shift s e to from = renumbered_links s e (shifted_index to from)
 
--- a list without the value at the position of p, as an end is after a cut; the whole list, if p is none. p is an optional pair of a
--- position and a value
+-- the values of an end after a link is cut: vs, the values before the cut, without the value at the link's position. p has the position and
+-- the value of the link in the end; if p is none, the link is not in the end, and the result is vs
 abbrev pub list_without : List Value → Option (ℕ × Value) → List Value
 list_without vs p = option_map_or (λ q. remove vs q.0) p vs
 

@@ -75,7 +75,8 @@ PlanFits s (x ∷ xs) = EditFits s x × PlanFits (links_after_edit s x) xs
 
 ---------------------------------------------------------------- kinds and cycles
 
--- an edit agrees with the opposite and the containment of its feature; a proxy is put only under a feature without a containing feature
+-- an edit agrees with the kinds of features: a put has the opposite and the containing feature that the kinds give for the feature of its
+-- end, and a proxy is put only under a feature without a containing feature
 abbrev pub IsEditOfKind : Kinds → Edit → Type 0
 IsEditOfKind m (edit.Cut e v) = Unit {0}
 IsEditOfKind m (edit.Put l) = (l.opposite ≡ m.opposite l.end.feature) × (l.container ≡ m.container l.end.feature)
@@ -86,11 +87,11 @@ abbrev pub IsPlanOfKind : Kinds → List Edit → Type 0
 IsPlanOfKind m [] = Unit {0}
 IsPlanOfKind m (x ∷ xs) = IsEditOfKind m x × IsPlanOfKind m xs
 
--- the plan agrees with some kinds of features, and the store agrees with the same kinds
+-- there are kinds of features with which the plan and the store agree; `kinds` says with which kinds the store agrees
 abbrev pub HasPlanOfKind : (Kinds → Type 0) → List Edit → Type 0
 HasPlanOfKind kinds plan = (m : Kinds) × kinds m × IsPlanOfKind m plan
 
--- the container that a link gives to a node x is neither x nor below x
+-- the container that the link l gives to a node x is not x, and is not below x in the set s
 abbrev pub IsOutside : Links → Link → Type 0
 IsOutside s l = (x : Node) (d : End) → holding_end l x ≡ Some d → ((d.node ≡ x) → ⊥) × (IsUnder s d.node x → ⊥)
 
@@ -100,7 +101,7 @@ MakesNoCycle s (edit.Put l) = IsOutside s (new_link s l.end l.index l.object l.o
 MakesNoCycle s (edit.Shift e to from) = Unit {0}
 MakesNoCycle s (edit.PutProxy e i t) = Unit {0}
 
--- no edit, in its turn, puts a node below itself
+-- no edit puts a node below itself in the set of links that the earlier edits leave
 abbrev pub PlanMakesNoCycle : Links → List Edit → Type 0
 PlanMakesNoCycle s [] = Unit {0}
 PlanMakesNoCycle s (x ∷ xs) = MakesNoCycle s x × PlanMakesNoCycle (links_after_edit s x) xs
@@ -130,7 +131,7 @@ node_before (node.Object x) (node.Resource y) = true
 node_before (node.Resource x) (node.Object y) = false
 node_before (node.Resource x) (node.Resource y) = nat_lt x.0 y.0
 
--- the end e comes before the end d: by the number of the feature, then by the node
+-- the end e comes before the end d: by the number of the feature, then by the node (`node_before`)
 abbrev pub is_before : End → End → Bool
 is_before e d = nat_lt e.feature.0 d.feature.0 || (same_feature e.feature d.feature && node_before e.node d.node)
 

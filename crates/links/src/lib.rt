@@ -1,6 +1,6 @@
-//! Links between nodes, and proxies: links that are not resolved. The crate has sets of links, edits of these sets, the laws of both, and
-//! the interface of a store. A plan of edits that fits a legal set keeps the set legal. A store that has capacity for a plan applies the
-//! plan and cannot fail.
+//! Links between nodes, and proxies, which are links that are not resolved. The crate has sets of links, edits of these sets, the laws of
+//! both, and the interface of a store. A plan of edits that fits a legal set keeps the set legal. A store that has capacity for a plan
+//! applies the plan and cannot fail.
 #![tactic(auto)]
 
 mod incoming;

@@ -1,4 +1,4 @@
-//! Links, and proxies: links that are not resolved.
+//! Links, and proxies, which are links that are not resolved.
 use mm_types::{End, FeatureNo, ObjectNo, Text};
 
 /// The far side of a link. The near side is the end `Link::end`.
@@ -22,7 +22,7 @@ pub struct Link {
     pub container: Option<FeatureNo>,
 }
 
-/// A link that is put in (`Edit::Put`). In the opposite end, if there is one, the link gets the last position.
+/// A link that an edit puts into a set of links (`Edit::Put`). In the opposite end, if there is one, the link gets the last position.
 #[derive(Clone, Copy, Debug)]
 pub struct NewLink {
     pub end: End,

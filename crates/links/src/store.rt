@@ -18,9 +18,10 @@ use std::alloc::{AllocError, Global};
 
 /// A set of links, however it is kept.
 ///
-/// A put names the opposite and the containing feature of its feature, and a store may keep both. The store then agrees only with
+/// A put names the opposite of its end's feature, and the containing feature. A store may keep both. If it does, it agrees only with
 /// metamodels that give the feature the same opposite and the same containing feature (`Kinds`). An empty store agrees with the kinds of
-/// every metamodel. If a store and a plan agree with some kinds, the store agrees with these kinds after `apply` too.
+/// every metamodel. If a store and a plan agree with some kinds, the store agrees with these kinds after `apply` too. Likewise, if a store
+/// and a new link agree with some kinds, the store agrees with them after `put`.
 pub trait LinkStore: Drop {
     /// The links.
     ghost links: { Self → Links };
@@ -51,7 +52,7 @@ pub trait LinkStore: Drop {
         requires legal { IsLegalSet (links self.now) }
         ensures { option_copied result ≡ proxy_of (links self.now) end index };
 
-    /// A position of an end before which there is no proxy. A search for a proxy begins there.
+    /// A position of an end before which there is no proxy. A search for a proxy can begin at this position.
     fn proxy_start(&self, end: End) -> usize
         requires legal { IsLegalSet (links self.now) }
         ensures { (k : ℕ) → k < result → proxy_of (links self.now) end k ≡ None };
@@ -78,7 +79,7 @@ pub trait LinkStore: Drop {
         requires legal { IsLegalSet (links self.now) }
         ensures { IfOk result (λ r. AreIncoming (links self.now) object r.items) };
 
-    /// Takes all the memory that a plan needs. Fails only if memory is refused; no link changes.
+    /// Takes all the memory that a plan needs, and changes no link. Fails only if memory is refused.
     fn reserve_for(&mut self, plan: &Plan) -> Result<(), AllocError>
         ensures links { links self.new ≡ links self.old }
         ensures kinds { (m : Kinds) → kinds self.old m → kinds self.new m }

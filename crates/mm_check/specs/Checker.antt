@@ -6,7 +6,7 @@ use Rattle.mm_types.specs.WellFormed.{own_names}
 use Rattle.mm_graph.specs.Order.{InRange}
 use Rattle.mm_check.specs.declared.checker.Checker.TheInside.{Inside}
 
--- the document that is checked
+-- the document that a checker checks
 abbrev pub checks : Inside → RawMetamodel
 checks c = c.resolver
 

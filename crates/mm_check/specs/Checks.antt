@@ -6,7 +6,8 @@ use Rattle.mm_types.specs.WellFormed.{IsFirstFault, WellFormed}
 use Rattle.mm_types.specs.declared.meta_fault.MetaFault.{MetaFault}
 use Rattle.mm_types.specs.declared.meta_fault.MetaFault.TheVariants.{Syntax, Layout, Limit, IllFormed, Memory}
 
--- the resolved metamodel if it is well-formed, else its first fault; nothing is said if memory is refused
+-- the result is the resolved metamodel if the document raw is well-formed, else the first fault of raw; if the result is `Memory`, nothing
+-- is said of raw
 abbrev pub Checks : RawMetamodel → Result Metamodel MetaFault → Type 0
 Checks raw (Ok m) = WellFormed raw × (m ≡ resolved_metamodel raw)
 Checks raw (Err Syntax) = ⊥

@@ -1,4 +1,4 @@
--- Whether a text is no literal of a type, given by its name; true for each text if no data type or enumeration has the name.
+-- Whether a text is no literal of the type with a given name; true for each text if no data type and no enumeration has the name.
 use Rattle.std.specs.Prelude.{ℕ, Bool, List, is_none, option_and_then}
 use Rattle.mm_types.specs.Resolved.{data_type_named, literal_value}
 use Rattle.mm_types.specs.declared.class.Enumeration.{Enumeration}

@@ -20,7 +20,7 @@ NoneBefore raw k = NoneBelow raw (condition_number k)
 abbrev pub IsLeast : (ℕ → Type 0) → Option ℕ → Type 0
 IsLeast P found = MatchOption found ((i : ℕ) → P i → ⊥) (λ i. P i × HoldsOfNone P i)
 
--- a condition applies at the place p, and the condition applies at no place before p
+-- the condition k applies at the place p, and applies at no place before p
 pub record IsFirstAt (raw : RawMetamodel) (k : Condition) (p : Place) : Type 0 where
   pub applies : Applies raw k p
   pub none_before : (q : Place) → Applies raw k q → IsBefore q p → ⊥
@@ -36,6 +36,6 @@ pub record AppliesToNone (raw : RawMetamodel) (k : Condition) (n : ℕ) : Type 0
   pub to_class : (c : ℕ) → c < n → Applies raw k (place.Class c) → ⊥
   pub to_feature : (c i : ℕ) → c < n → Applies raw k (place.Feature c i) → ⊥
 
--- how many features a class declares; 0 if no class has the number
+-- how many features the class at the index c declares; 0 if there is no such class
 abbrev pub feature_count : RawMetamodel → ℕ → ℕ
 feature_count raw c = option_map_or (λ k. length k.features) (slice_get raw.classes c) 0

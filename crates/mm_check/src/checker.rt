@@ -15,7 +15,8 @@ use std::marker::Model;
 pub struct Checker<'a> {
     /// Finds the enumerations, classes, literals and features of the document by their names.
     pub resolver: Resolver<'a>,
-    /// The direct supertypes of each class, as positions of classes. A supertype that is no class of the document is left out.
+    /// For each class its direct supertypes, each as an index in the list of classes of the document. A supertype that is no class of the
+    /// document is left out.
     pub graph: Vec<Seq<usize>>,
     /// The names of the features that each class declares.
     pub names: Vec<Seq<Text>>,
@@ -89,7 +90,7 @@ impl<'a> Checker<'a> {
         self.resolver.classes().len()
     }
 
-    /// How many features a class declares; 0 if no class has the number.
+    /// How many features the class at the index `c` declares; 0 if there is no such class.
     pub fn feature_count(&self, c: usize) -> usize
         ensures { result ≡ feature_count self.now c }
     {
@@ -99,14 +100,14 @@ impl<'a> Checker<'a> {
         }
     }
 
-    /// The enumeration at a position; `None` if there is none.
+    /// The enumeration at the index `i`; `None` if there is none.
     pub fn enum_at(&self, i: usize) -> Option<&Enumeration>
         ensures { option_copied result ≡ slice_get self.now.enums i }
     {
         self.resolver.enums().get(i)
     }
 
-    /// The class at a position; `None` if there is none.
+    /// The class at the index `c`; `None` if there is none.
     pub fn class_at(&self, c: usize) -> Option<&RawClass>
         ensures { option_copied result ≡ slice_get self.now.classes c }
     {

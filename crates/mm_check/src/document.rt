@@ -1,4 +1,4 @@
-//! A metamodel document is checked and resolved.
+//! Checks a metamodel document, and resolves it.
 ghost use Rattle.std.specs.Prelude.{◌≡◌, IfOk};
 ghost use Rattle.mm_types.specs.WellFormed.{IsFault};
 ghost use Rattle.mm_check.specs.Checks.{Checks};

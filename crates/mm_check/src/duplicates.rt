@@ -1,4 +1,4 @@
-//! Names that occur twice.
+//! Names that occur twice, and reserved names.
 ghost use Rattle.std.specs.Prelude.{◌≡◌, ◌↔◌, ◌||◌, ◌++◌, [], IfOk, IsTrue, codes, map, take, length, ◌<◌};
 ghost use Rattle.mm_types.specs.Names.{is_among, repeats};
 ghost use Rattle.mm_types.specs.Resolved.{graph_of};
@@ -30,7 +30,7 @@ fn has_repeated_text(alloc: Global, texts: &[Text]) -> Result<bool, AllocError>
 }
 
 impl<'a> Checker<'a> {
-    /// Whether one of the enumerations before the position `i` has the name `name`.
+    /// Whether one of the enumerations before the index `i` has the name `name`.
     fn has_enum_before(&self, i: usize, name: &str) -> bool
         ensures { result ≡ is_among (take i (enum_names self.now)) name.now }
     {
@@ -46,7 +46,7 @@ impl<'a> Checker<'a> {
         self.resolver.enumeration(name).is_some()
     }
 
-    /// Whether one of the classes before the position `c` has the name `name`.
+    /// Whether one of the classes before the index `c` has the name `name`.
     fn has_class_before(&self, c: usize, name: &str) -> bool
         ensures { result ≡ is_among (take c (class_names self.now)) name.now }
     {
@@ -84,9 +84,10 @@ impl<'a> Checker<'a> {
         clashes(alloc, self.graph.as_slice(), self.names.as_slice(), c)
     }
 
-    /// Whether one of the following is true of the enumeration or class at a place. It has a reserved name, or the name of an enumeration
-    /// or class before it; all enumerations are before all classes. It is an enumeration with two equal literals. It is a class that names
-    /// a supertype twice, or that has two features, own or inherited, of the same name. Fails only if memory is refused.
+    /// Whether the condition `DuplicateName` applies at a place. It applies to an enumeration or class that has a reserved name, or the
+    /// name of an enumeration or class before it; all enumerations are before all classes. It applies to an enumeration with two equal
+    /// literals, and to a class that names a supertype twice, or has two features, own or inherited, of the same name. It applies to no
+    /// feature. Fails only if memory is refused.
     pub fn has_duplicate(&self, alloc: Global, place: Place) -> Result<bool, AllocError>
         ensures { IfOk result (λ b. IsTrue b ↔ HasDuplicate self.now place) }
     {

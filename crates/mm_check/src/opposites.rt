@@ -1,4 +1,4 @@
-//! Opposites, and which of them are containments.
+//! Conditions on opposites, containments and container references.
 ghost use Rattle.std.specs.Prelude.{◌≡◌, ◌↔◌, IsTrue, is_some, not, pos};
 ghost use Rattle.std.specs.Option.{option_copied};
 ghost use Rattle.std.specs.Ordering.{int_eq};
@@ -98,8 +98,8 @@ impl<'a> Checker<'a> {
         self.reference_named(d, name.as_str())
     }
 
-    /// The reference that the feature at the index `i` of the class `c` names as its opposite: its class, and its index in this class.
-    /// `None` if there is no such feature or no such reference.
+    /// The reference that the feature at the index `i` of the class `c` names as its opposite: the class of this reference, and the
+    /// reference's index in its class. `None` if there is no such feature, or no such reference.
     fn opposite_at(&self, c: usize, i: usize) -> Option<(usize, usize)>
         ensures { result ≡ opposite_at self.now c i }
     {

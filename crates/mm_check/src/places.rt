@@ -63,7 +63,8 @@ impl<'a> Checker<'a> {
         Ok(None)
     }
 
-    /// The first class, or feature of a class, to which a condition applies.
+    /// The first class or feature to which a condition applies; each class is before its own features, and these are before the next class.
+    /// `None` if there is none. The condition must apply to no enumeration.
     fn first_in_classes(
         &self,
         alloc: Global,

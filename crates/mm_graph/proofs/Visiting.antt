@@ -26,34 +26,9 @@ counted_set : (p : Mark → Bool) (ms : List Mark) (c : ℕ) (m old : Mark) → 
     → count_by p (set ms c m) + cond (p old) 1 0 ≡ count_by p ms + cond (p m) 1 0
 counted_set p ms c m old within is = rw (← is) (sum_by-set (λ x. cond (p x) 1 0) ms c m Unseen within)
 
-pub goes_none : (ms : List Mark) → Goes ms ms
-goes_none ms = record { same_length = refl; opened = λ k h. h; stays_open = λ k h. h; stays_done = λ k h. h; fewer = omega arith }
-
-pub goes_more : (a b c : List Mark) → Goes a b → Goes b c → Goes a c
-goes_more a b c g h = record {
-  same_length = h.same_length ∙ g.same_length;
-  opened = λ k e. g.opened k (h.opened k e);
-  stays_open = λ k e. h.stays_open k (g.stays_open k e);
-  stays_done = λ k e. h.stays_done k (g.stays_done k e);
-  fewer = let x = g.fewer in let y = h.fewer in omega arith;
-}
-
 -- a class that was unseen is opened
 pub fewer_unseen : (ms : List Mark) (c : ℕ) → c < length ms → mark ms c ≡ Unseen → count_by is_unseen (set ms c Open) + 1 ≡ count_by is_unseen ms
 fewer_unseen ms c within is = let e = counted_set is_unseen ms c Open Unseen within is in omega arith
-
-pub begun_open : (g : List (List ℕ)) (ms : List Mark) (order : List ℕ) (c : ℕ) → IsBegun g ms order → c < length g → mark ms c ≡ Unseen → IsBegun g (set ms c Open) order
-begun_open g ms order c b low is =
-    let within : c < length ms = omega (arith, b.long) in
-    record {
-      long = length-set ms c Open ∙ b.long;
-      within = b.within;
-      done = λ k e. ⊎_elim
-          (λ (s : k ≡ c). let bad : Open ≡ Done = sym (same_mark ms c k Open within s) ∙ e in cc)
-          (λ (n : k ≢ c). b.done k (sym (other_mark ms c k Open n) ∙ e)) (cases_eq k c);
-      behind = b.behind;
-      counted = let e = counted_set is_done ms c Open Unseen within is in b.counted ∙ omega arith;
-    }
 
 behind_push : (g : List (List ℕ)) (order : List ℕ) (c : ℕ)
     → ((j : ℕ) → j < length order → All (IsBefore order j) (by_class g (get_or order j 0)))

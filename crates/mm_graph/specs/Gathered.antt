@@ -1,7 +1,7 @@
 -- The names that some classes declare.
 use Rattle.std.specs.Prelude.{ℕ, ◌++◌, Bool, true, false, List, [], ◌∷◌}
 
--- the names that the classes of a set declare, one class after another
+-- the names that the classes of a set declare, one class after another; the set is a truth value for each class
 abbrev pub gathered_names : List Bool → List (List (List ℕ)) → List (List ℕ)
 gathered_names [] nss = []
 gathered_names (b ∷ bs) [] = []

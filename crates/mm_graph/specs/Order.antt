@@ -11,7 +11,7 @@ InRange g = All (λ (es : List ℕ). All (λ (e : ℕ). e < length g) es) g
 abbrev pub HasCycle : List (List ℕ) → Type 0
 HasCycle g = (c : ℕ) × Reaches g c c
 
--- the class e is in the order, at a position before j
+-- the class e is in the order, at an index below j
 abbrev pub IsBefore : List ℕ → ℕ → ℕ → Type 0
 IsBefore order j e = (i : ℕ) × (i < j) × (slice_index_or order i 0 ≡ e)
 

@@ -10,7 +10,7 @@ use indexmap::IndexSet;
 use mm_types::{Seq, Text};
 use std::alloc::{AllocError, Global};
 
-/// Whether a name occurs twice. Fails only if memory is refused.
+/// Whether a name occurs twice in `names`. Fails only if memory is refused.
 pub fn has_repeats(alloc: Global, names: &[&str]) -> Result<bool, AllocError>
     ensures { IfOk result (λ b. b ≡ repeats [] (map (λ n. n.now) names.now)) }
 {
@@ -25,7 +25,7 @@ pub fn has_repeats(alloc: Global, names: &[&str]) -> Result<bool, AllocError>
 }
 
 /// The names of the features that the chosen classes declare, one class after another. `chosen` says for each class whether it is chosen,
-/// and `names` has the names for each class.
+/// and `names` has the names of the features that each class declares.
 fn gather<'a>(
     alloc: Global,
     chosen: &[bool],
@@ -48,7 +48,7 @@ fn gather<'a>(
 /// Whether two different features of a class, own or inherited, share a name. `names` has the names of the features that each class
 /// declares. Fails only if memory is refused.
 ///
-/// The graph of supertypes may have cycles. The check takes one look-up for each feature.
+/// The graph of supertypes may have cycles. The check takes one look-up for each feature of the class, own or inherited.
 pub fn clashes(
     alloc: Global,
     graph: &[Seq<usize>],

@@ -45,8 +45,8 @@ fn merged(
 /// All features of every class, own and inherited, at the class's number. `own` has the features that each class declares, and `order` is
 /// an order that `order_of` returns. Fails only if memory is refused.
 ///
-/// Each class's list is made once, by going once through the list of each direct supertype. So the number of paths that lead to a supertype
-/// does not matter. A list takes four bytes a feature and no more, since all lists together are the largest part of a metamodel.
+/// Each class's list is made once, by going once through the list of each direct supertype. So the time does not depend on how many paths
+/// lead to a supertype. A list takes four bytes a feature and no more, since all lists together are the largest part of a metamodel.
 pub fn features_table(
     alloc: Global,
     graph: &[Seq<usize>],

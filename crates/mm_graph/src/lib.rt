@@ -1,8 +1,8 @@
 //! Algorithms on the classes of a metamodel, as a graph of numbers.
 //!
-//! At each class's number are the numbers of its direct supertypes. The functions of this crate find an order in which supertypes come
-//! first, all features of each class, which classes a class conforms to, the first class on a cycle, and whether two features of a class
-//! share a name.
+//! The graph is a list that has, at each class's number, the numbers of the direct supertypes of the class. The functions of this crate
+//! find an order in which supertypes come first, all features of each class, which classes a class conforms to, the first class on a cycle,
+//! and whether two features of a class share a name.
 #![tactic(auto)]
 
 mod clash;

@@ -16,7 +16,8 @@ enum Mark {
     Done,
 }
 
-/// Visits a class, and its supertypes before it. False if a cycle was met.
+/// Visits a class: visits its direct supertypes, and then adds the class to the order. Does nothing if the class is in the order already.
+/// False if a cycle was met.
 fn visit(
     graph: &[Seq<usize>],
     c: usize,

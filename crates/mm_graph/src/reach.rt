@@ -10,7 +10,7 @@ use crate::order::order_of;
 use mm_types::Seq;
 use std::alloc::{AllocError, Global};
 
-/// Adds a class, and the classes that it reaches, to a set. The supertypes of a class that is in the set already are not visited again.
+/// Adds a class, and the classes that it reaches, to a set. If a class is in the set already, its supertypes are not visited.
 fn add_reached(graph: &[Seq<usize>], c: usize, seen: &mut [bool])
     requires graph { InRange graph.now }
     requires class { c < length graph.now }

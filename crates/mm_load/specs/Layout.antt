@@ -65,19 +65,21 @@ abbrev pub is_unsettable : RawKind → Bool
 is_unsettable (Attribute unique unsettable default) = unsettable
 is_unsettable (Reference containment opposite) = false
 
--- whether a feature is single, or is not unsettable
+-- whether a feature is single (its upper bound is 1), or is not unsettable
 abbrev pub unsets_one : RawFeature → Bool
 unsets_one f = not (is_unsettable f.kind) || int_eq f.upper (pos 1)
 
--- a JSON object that has only the fields of a feature and of an attribute; if the attribute is unsettable, it has to be single
+-- the attribute that a JSON value describes; none if the value is no object, if it has a key other than those of `feature_fields` and
+-- `attribute_fields`, if one of these fields can't be read, or if the attribute is unsettable and not single
 unfoldable pub attribute : Data → Option RawFeature
 attribute d = object_of (makes new_feature also feature_fields also attribute_fields) d such_that unsets_one
 
--- a JSON object that has only the fields of a feature and of a reference
+-- the reference that a JSON value describes; none if the value is no object, if it has a key other than those of `feature_fields` and
+-- `reference_fields`, or if one of these fields can't be read
 unfoldable pub reference : Data → Option RawFeature
 reference = object_of (makes new_feature also feature_fields also reference_fields)
 
--- an attribute or a reference
+-- the attribute or the reference that a JSON value describes; none if the value describes neither of them
 unfoldable pub feature : Data → Option RawFeature
 feature d = option_or (attribute d) (reference d)
 
@@ -92,14 +94,15 @@ abbrev pub class_fields : Fields RawClass
 class_fields = makes new_class
     -- its name
     also required_field (codes "name") text
-    -- whether it has no objects of its own; false if the key is absent
+    -- whether it is abstract, so that no object has it as its class; false if the key is absent
     also optional_field (codes "abstract") flag false
     -- the names of its supertypes, in order; none if the key is absent
     also optional_field (codes "supers") (array_of text) []
     -- the features that it declares, in order; none if the key is absent
     also optional_field (codes "features") (array_of feature) []
 
--- a JSON object that has only the fields of a class
+-- the class that a JSON value describes; none if the value is no object, if it has a key other than those of `class_fields`, or if one of
+-- these fields can't be read
 unfoldable pub class : Data → Option RawClass
 class = object_of class_fields
 
@@ -116,7 +119,8 @@ enumeration_fields = makes new_enumeration
     -- its literals, in order; at least one
     also required_field (codes "literals") (array_of_some text)
 
--- a JSON object that has only the fields of an enumeration
+-- the enumeration that a JSON value describes; none if the value is no object, if it has a key other than those of `enumeration_fields`, or
+-- if one of these fields can't be read
 unfoldable pub enumeration : Data → Option Enumeration
 enumeration = object_of enumeration_fields
 
@@ -133,6 +137,7 @@ document_fields = makes new_document
     -- the classes, in order
     also required_field (codes "classes") (array_of class)
 
--- a JSON object that has only the fields of the document
+-- the metamodel that the JSON value of a document describes; none if the value is no object, if it has a key other than those of
+-- `document_fields`, or if one of these fields can't be read
 unfoldable pub document : Data → Option RawMetamodel
 document = object_of document_fields

@@ -12,12 +12,12 @@ use Rattle.mm_load.specs.Layout.{document}
 abbrev pub metamodel_if_within_limits : RawMetamodel → Result RawMetamodel MetaFault
 metamodel_if_within_limits raw = if is_within_limits raw then Ok raw else Err Limit
 
--- `Layout` if the layout is wrong, else the result of the check of the limits
+-- `Layout` if there is no metamodel, since the layout is wrong; else the result of the check of the limits
 abbrev pub metamodel_of_layout : Option RawMetamodel → Result RawMetamodel MetaFault
 metamodel_of_layout None = Err Layout
 metamodel_of_layout (Some raw) = metamodel_if_within_limits raw
 
--- `Syntax` if the bytes are no JSON, else the result of the checks of the layout and of the limits
+-- `Syntax` if there is no JSON value, since the bytes are no JSON; else the result of the checks of the layout and of the limits
 abbrev pub metamodel_of_json : Option Data → Result RawMetamodel MetaFault
 metamodel_of_json None = Err Syntax
 metamodel_of_json (Some d) = metamodel_of_layout (document d)
@@ -26,7 +26,7 @@ metamodel_of_json (Some d) = metamodel_of_layout (document d)
 unfoldable pub metamodel_of_bytes : List ℕ → Result RawMetamodel MetaFault
 metamodel_of_bytes bytes = if is_utf8 bytes then metamodel_of_json (read bytes) else Err Syntax
 
--- The loader returns the wanted result, or `Memory`.
+-- what the loader may return: `wanted`, or `Memory` in place of `wanted`
 abbrev pub Loads : Result RawMetamodel MetaFault → Result RawMetamodel MetaFault → Type 0
 Loads (Err Memory) wanted = Unit {0}
 Loads result wanted = wanted ≡ result

@@ -1,4 +1,4 @@
-//! A document of the right layout. Its counts and lengths are not yet checked against the limits.
+//! Documents whose layout is right. The limits of a metamodel are checked after the layout.
 ghost use Rattle.std.specs.Prelude.{◌≡◌};
 ghost use Rattle.serde_json.specs.Data.{object};
 ghost use Rattle.serde_json.specs.View.{members_view};
@@ -14,8 +14,8 @@ use serde_json::{Map, Value};
 use std::alloc::Global;
 use std::marker::Model;
 
-/// The content of a document. Its counts and lengths may be above the limits of a metamodel; contracts see the content as a `RawMetamodel`
-/// in either case.
+/// The enumerations and classes of a document whose layout is right. A count or a length may be above its limit. Contracts see a `Document`
+/// as a `RawMetamodel`, within the limits or not.
 #[derive(Debug, Drop)]
 pub struct Document {
     enums: Seq<Enumeration>,
@@ -31,14 +31,14 @@ impl Model for Document {
 }
 
 impl Document {
-    /// A document of enumerations and classes. Takes no memory.
+    /// The document that has these enumerations and classes. Takes no memory.
     pub fn new(enums: Seq<Enumeration>, classes: Seq<RawClass>) -> Self
         ensures { result ≡ record { enums = enums; classes = classes } }
     {
         Document { enums, classes }
     }
 
-    /// The metamodel itself, or `Limit` if a count or a length is above its limit. Takes no memory.
+    /// The metamodel that the document describes; `Limit` if a count or a length is above its limit. Takes no memory.
     pub fn into_raw(self) -> Result<RawMeta, MetaFault>
         ensures { result ≡ metamodel_if_within_limits self }
     {

@@ -12,7 +12,8 @@ use mm_types::{Enumeration, Seq, Text};
 use serde_json::{Map, Value};
 use std::alloc::Global;
 
-/// Takes out and reads the literals of an enumeration.
+/// Takes out the literals of an enumeration and reads them. `members` are those of the JSON object of the enumeration. Fails with `Layout`
+/// if the key `literals` is absent, or if its value is not an array of at least one text; with `Memory` if memory is refused.
 fn take_literals(alloc: Global, members: &mut Map<String, Value>) -> Result<Seq<Text>, ReadFault>
     ensures { Gives result (required_at (codes "literals") (array_of_some text) (object (members_view members.old.entries))) }
 {

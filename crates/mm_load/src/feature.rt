@@ -16,7 +16,8 @@ use std::alloc::Global;
 /// The keys of the fields that attributes and references have in common.
 const HEAD: [&str; 4] = ["name", "type", "lower", "upper"];
 
-/// Takes out and reads the fields of a feature that attributes and references have in common.
+/// Takes out the values of the keys in `HEAD` and reads them. `members` are those of the JSON object of a feature, and members with other
+/// keys stay. Fails with `Layout` if a required key is absent or a value does not have its layout; with `Memory` if memory is refused.
 fn take_head(alloc: Global, members: &mut Map<String, Value>) -> Result<Head, ReadFault>
     ensures read { Gives result (feature_fields.reading (object (members_view members.old.entries))) }
     ensures others { KeepsOthers feature_fields.keys (members_view members.old.entries) (members_view members.new.entries) }
@@ -33,7 +34,9 @@ fn take_head(alloc: Global, members: &mut Map<String, Value>) -> Result<Head, Re
     })
 }
 
-/// Reads the further fields of an attribute: checks that the kind is `attribute`, and takes out and reads the other fields.
+/// Reads the further fields of an attribute: checks that the value of `kind` is `attribute`, and takes out and reads the values of
+/// `unique`, `unsettable` and `default`. Fails with `Layout` if the kind is different or a value does not have its layout; with `Memory` if
+/// memory is refused.
 fn take_attribute(alloc: Global, members: &mut Map<String, Value>) -> Result<RawKind, ReadFault>
     ensures { Gives result (attribute_fields.reading (object (members_view members.old.entries))) }
 {
@@ -50,7 +53,9 @@ fn take_attribute(alloc: Global, members: &mut Map<String, Value>) -> Result<Raw
     })
 }
 
-/// Reads the further fields of a reference: checks that the kind is `reference`, and takes out and reads the other fields.
+/// Reads the further fields of a reference: checks that the value of `kind` is `reference`, and takes out and reads the values of
+/// `containment` and `opposite`. Fails with `Layout` if the kind is different or a value does not have its layout; with `Memory` if memory
+/// is refused.
 fn take_reference(alloc: Global, members: &mut Map<String, Value>) -> Result<RawKind, ReadFault>
     ensures { Gives result (reference_fields.reading (object (members_view members.old.entries))) }
 {
@@ -65,7 +70,7 @@ fn take_reference(alloc: Global, members: &mut Map<String, Value>) -> Result<Raw
     })
 }
 
-/// Whether a feature is single, or is not unsettable. A reference is never unsettable.
+/// Whether a feature is single (its upper bound is 1), or is not unsettable. Always true of a reference, which is never unsettable.
 fn unsets_one_at_most(feature: &RawFeature) -> bool
     ensures { result ≡ unsets_one feature.now }
 {

@@ -1,4 +1,4 @@
-//! JSON values are read as truth values, numbers, texts, and sequences of values that can be read.
+//! JSON values are read as truth values, whole numbers of 32 bits, texts, and sequences, whose items are read in turn.
 ghost use Rattle.std.specs.Prelude.{◌≡◌, Option};
 ghost use Rattle.serde_json.specs.Data.{Data};
 ghost use Rattle.serde_json.specs.View.{items_view, view};
@@ -9,12 +9,14 @@ use mm_types::{Seq, Text, limits};
 use serde_json::Value;
 use std::alloc::Global;
 
-/// A type whose values are read from JSON. Its definition `reads` says which value is read.
+/// A type whose values are read from JSON. Its definition `reads` says which value of the type a JSON value is read as; none if the JSON
+/// value does not have the layout of the type.
 pub trait FromJson: Sized {
     ghost reads: { Data → Option Self };
 
-    /// Reads a value. Fails with `Layout` if the value does not have the layout of the type. The texts of the JSON value are moved and the
-    /// rest of the value is freed, so that reading a document takes little memory beside the parsed JSON.
+    /// Reads a value. Fails with `Layout` if the value does not have the layout of the type, and with `Memory` if memory is refused. A long
+    /// text is moved out of the JSON value, and not copied; the rest of the JSON value is freed. So reading a document takes little memory
+    /// beside the parsed JSON.
     fn from_json(alloc: Global, value: Value) -> Result<Self, ReadFault>
         ensures { Gives result (reads (view value)) };
 }
@@ -52,7 +54,8 @@ impl FromJson for Text {
 fn each_of<T: FromJson + Drop>(alloc: Global, values: Vec<Value>) -> Result<Seq<T>, ReadFault>
     ensures { Gives result (each T.reads (items_view values.items)) }
 {
-    // Capacity is reserved once for the whole list: within the limits, no list is longer than the longest list of classes.
+    // Capacity for the whole list is reserved at once. `limits::CLASSES` is enough, since no list in a document within the limits is
+    // longer.
     let mut items = Vec::with_capacity(alloc, values.len().min(limits::CLASSES))?;
     'values: for value in values {
         items.push(T::from_json(alloc, value)?)?;

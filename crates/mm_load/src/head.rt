@@ -1,10 +1,10 @@
-//! The fields that every feature has.
+//! The fields that attributes and references have in common.
 ghost use Rattle.std.specs.Prelude.{◌≡◌};
 ghost use Rattle.mm_load.specs.Layout.{new_feature};
 
 use mm_types::{RawFeature, RawKind, Text};
 
-/// A feature without the further fields of an attribute or a reference.
+/// The fields of a feature that attributes and references have in common, without the further fields of an attribute or a reference.
 #[derive(Debug, Drop)]
 pub struct Head {
     pub name: Text,
@@ -14,7 +14,7 @@ pub struct Head {
 }
 
 impl Head {
-    /// The feature that has these fields and the given kind. Takes no memory.
+    /// The feature that has these fields, and in `kind` the further fields of an attribute or a reference. Takes no memory.
     pub fn with(self, kind: RawKind) -> RawFeature
         ensures { result ≡ new_feature self kind }
     {

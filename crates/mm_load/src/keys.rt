@@ -1,4 +1,4 @@
-//! The values of an object's keys are taken out and read.
+//! The values of keys are taken out of a JSON object, and read.
 ghost use Rattle.std.specs.Prelude.{[], ◌∷◌};
 ghost use Rattle.serde_json.specs.Data.{object};
 ghost use Rattle.serde_json.specs.View.{members_view};
@@ -9,8 +9,8 @@ use json_fields::{ReadFault, take};
 use serde_json::{Map, Value};
 use std::alloc::Global;
 
-/// Takes out the value of a key and reads it. Fails with `Layout` if the key is absent, or if the value does not have the layout of `T`;
-/// with `Memory` if memory is refused.
+/// Takes out the value of a key and reads it. Fails with `Layout` if the key is absent or the value does not have the layout of `T`, and
+/// with `Memory` if memory is refused. Members with other keys stay.
 pub fn required<T: FromJson>(
     alloc: Global,
     members: &mut Map<String, Value>,
@@ -26,7 +26,7 @@ pub fn required<T: FromJson>(
 }
 
 /// Takes out the value of a key and reads it; returns `absent` if the key is absent. Fails with `Layout` if the value does not have the
-/// layout of `T`, and with `Memory` if memory is refused.
+/// layout of `T`, and with `Memory` if memory is refused. Members with other keys stay.
 pub fn optional<T: FromJson + Drop>(
     alloc: Global,
     members: &mut Map<String, Value>,

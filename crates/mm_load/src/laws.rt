@@ -5,8 +5,8 @@ ghost use Rattle.serde_json.specs.Data.{Members, object};
 ghost use Rattle.serde_json.specs.Find.{get};
 ghost use Rattle.serde_json.specs.Read.{of_json, of_members};
 
-/// Of equal keys the last counts: the value of an object under the key of its last member is the value of that member, whatever members
-/// come before it.
+/// If members of a JSON object have the same key, the last of them counts. So if `last` is the value of the last member of an object, then
+/// the value of the key of this member is `last`, whatever members come before it.
 pub fn the_last_of_equal_keys_counts()
     ensures { (key : List ℕ) (last : Json) (before all : Members) → of_members (member key last no_members) before ≡ Some all
         → get key (object all) ≡ of_json last }

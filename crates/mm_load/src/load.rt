@@ -14,9 +14,10 @@ use std::alloc::Global;
 /// - `Layout` if the value does not have the shape of a metamodel, or has a key that is not listed;
 /// - `Limit` if a count or a length is above its limit.
 ///
-/// `Memory` may be returned in place of the metamodel or of any of these faults, but only if memory is refused. Of equal keys of an object
-/// the last counts. The time is linear in the document, except that a look-up of a key in a large object takes the logarithm of the number
-/// of its keys. The texts are moved out of the parsed JSON, which is freed part by part as it is read.
+/// `Memory` may be returned in place of the metamodel or of any of these faults, but only if memory is refused. If members of an object
+/// have the same key, the last of them counts. The time is linear in the length of the document, except that a look-up of a key takes time
+/// in the logarithm of the number of keys of its object. Each part of the parsed JSON is freed as soon as it is read, and long texts are
+/// moved out of it, and not copied.
 pub fn load_meta(alloc: Global, bytes: &[u8]) -> Result<RawMeta, MetaFault>
     ensures { Loads result (metamodel_of_bytes bytes.now) }
 {

@@ -236,9 +236,6 @@ pushed [] x y (suc k) is = cc
 pushed (z ∷ xs) x y zero is = inl is
 pushed (z ∷ xs) x y (suc k) is = ⊎_elim (λ h. inl h) (λ h. inr (ap suc h.0, h.1)) (pushed xs x y k is)
 
-pub row_none : (m : Metamodel) (name : List ℕ) → IsRow m name []
-row_none m name c found is = cc
-
 -- what is true of each item, by its index, and of one more
 pub one_more : {X : Type 0} (Holds : ℕ → X → Type 0) (xs : List X) (n : ℕ) (x : X) → length xs ≡ n → Holds n x → ((k : ℕ) (y : X) → slice_get xs k ≡ Some y → Holds k y)
     → (k : ℕ) (y : X) → slice_get (xs ++ x ∷ []) k ≡ Some y → Holds k y

@@ -1,5 +1,5 @@
 -- Lists of tables, and of numbers, that grow by one.
-use Rattle.std.proofs.Common.{◌≡◌, ◌∙◌, ◌+◌, ◌-◌, ◌<◌, ◌≤◌, ◌++◌, ℕ, zero, suc, List, [], ◌∷◌, Option, Some, None, ap, arith, get_or, length, map, refl, subst, sym, take}
+use Rattle.std.proofs.Common.{◌≡◌, ◌∙◌, ◌+◌, ◌-◌, ◌<◌, ◌≤◌, ◌++◌, ℕ, zero, suc, List, [], ◌∷◌, Option, None, ap, arith, get_or, length, map, refl, subst, sym, take}
 use Rattle.std.specs.Prelude.{option_and_then, position, slice_get}
 use Rattle.std.specs.List.{AllZip, range_with_len}
 use Rattle.std.specs.Str.{bytes_eq}
@@ -12,13 +12,6 @@ zip_push R [] [] x y h r = (r, tt)
 zip_push R [] (b ∷ bs) x y h r = absurd h
 zip_push R (a ∷ as') [] x y h r = absurd h
 zip_push R (a ∷ as') (b ∷ bs) x y h r = (h.0, zip_push R as' bs x y h.1 r)
-
--- the items at one index of both lists are related
-pub zip_at : {A B : Type 0} (R : A → B → Type 0) (xs : List A) (ys : List B) (i : ℕ) (x : A) (y : B) → AllZip R xs ys → slice_get xs i ≡ Some x → slice_get ys i ≡ Some y → R x y
-zip_at R [] ys i x y h p q = absurd (cc)
-zip_at R (a ∷ as') [] i x y h p q = absurd h
-zip_at R (a ∷ as') (b ∷ bs) zero x y h p q = let e : a ≡ x = cc in let f : b ≡ y = cc in subst (R x) f (subst (λ v. R v b) e h.0)
-zip_at R (a ∷ as') (b ∷ bs) (suc i) x y h p q = zip_at R as' bs i x y h.1 p q
 
 -- the first i + 1 items are the first i and one more
 pub map-take_more : {A B : Type 0} (f : A → B) (xs : List A) (i : ℕ) (x : A) → i < length xs → x ≡ get_or xs i x → map f (take (i + 1) xs) ≡ map f (take i xs) ++ f x ∷ []

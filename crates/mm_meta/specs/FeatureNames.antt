@@ -26,8 +26,8 @@ pub record ComesTo (m : Metamodel) (c : ClassNo) (name : List ℕ) (at : ℕ) : 
   pub passed : (h : ℕ) → h < at → feature_name m (feature_no h) ≡ name → has_feature m c (feature_no h) ≡ false
   pub here : at < length m.features → feature_name m (feature_no at) ≡ name
 
--- a list by class number: for each class it has the feature of that class with a given name, or none; the list may end before the last
--- class
+-- by_class is a list by class number: for each class it has the feature of the class with the given name, or none if the class has no such
+-- feature; the list may end before the last class
 abbrev pub IsRow : Metamodel → List ℕ → List (Option FeatureNo) → Type 0
 IsRow m name by_class = (c : ℕ) (found : Option FeatureNo) → slice_get by_class c ≡ Some found → found ≡ feature_by_name m (class_no c) name
 

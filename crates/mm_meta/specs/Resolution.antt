@@ -8,7 +8,7 @@ use Rattle.mm_types.specs.Resolved.{classes_from, features_from, graph_of, own_o
 use Rattle.mm_graph.specs.ConformTable.{IsConformTable}
 use Rattle.mm_meta.specs.declared.resolution.Resolution.{Resolution}
 
--- a list for each class: the numbers of all its features
+-- at the number of each class, rows has the numbers of all features of the class, own and inherited
 abbrev pub AreFeaturesOf : List RawClass → List (List ℕ) → Type 0
 AreFeaturesOf classes rows = (c : ℕ) → c < length classes → by_class rows c ≡ all_features (graph_of classes) (own_of classes) c
 

@@ -34,7 +34,7 @@ fn feature_numbers(alloc: Global, numbers: &[u32]) -> Result<Seq<FeatureNo>, All
 }
 
 impl<'a> Resolver<'a> {
-    /// The numbers of the classes with these names; a name of no class is skipped.
+    /// The number of the first class with each of these names; a name that no class has is skipped.
     fn supers_of(&self, alloc: Global, names: &[Text]) -> Result<Seq<usize>, AllocError>
         ensures { IfOk result (λ s. s ≡ filter_map (class_named self.now.classes) names.now) }
     {
@@ -57,7 +57,8 @@ impl<'a> Resolver<'a> {
         Ok(rows)
     }
 
-    /// The direct supertypes of each class, by number. Fails only if memory is refused.
+    /// For each class of the document, the numbers of its direct supertypes; the name of a supertype that no class has is skipped. Fails
+    /// only if memory is refused.
     pub fn graph(&self, alloc: Global) -> Result<Vec<Seq<usize>>, AllocError>
         ensures value { IfOk result (λ g. g.items ≡ graph_of self.now.classes) }
         ensures range { IfOk result (λ g. InRange g.items) }
@@ -66,7 +67,8 @@ impl<'a> Resolver<'a> {
         Ok(rows)
     }
 
-    /// A class with its names resolved, given the supertypes of each class and all features of this class.
+    /// The class `raw` with its names resolved. Its number is `c`, `graph` has the direct supertypes of each class, and `all` has the
+    /// numbers of all features of the class `c`, own and inherited.
     fn resolved_class(
         &self,
         alloc: Global,
@@ -94,8 +96,9 @@ impl<'a> Resolver<'a> {
         })
     }
 
-    /// The classes with their names resolved, given the supertypes and all features of each class. The list of a class's features is freed
-    /// as soon as the class is made, so that all lists and all classes are never in memory at the same time.
+    /// The classes of the document with their names resolved. For each class, `graph` has the direct supertypes, and `all` has the numbers
+    /// of all features, own and inherited. Each list of `all` is freed as soon as its class is made, so that at most one list is in memory
+    /// together with the class that is made of it.
     pub fn resolved_classes(
         &self,
         alloc: Global,

@@ -9,8 +9,8 @@ use crate::name_table::NameTable;
 use mm_types::Feature;
 use std::alloc::{AllocError, Global};
 
-/// One table of the names of all features, whatever class declares them: the first feature of each name, and for each feature the next
-/// feature of its name. It grows with the declared features, and not with the inherited ones.
+/// One table of the names of all features, whatever class declares them: the first feature with each name, and for each feature the next
+/// feature with the same name. The size of the table depends on how many features are declared, and not on how many are inherited.
 #[derive(Drop)]
 pub struct FeatureNames {
     first: NameTable,
@@ -19,7 +19,7 @@ pub struct FeatureNames {
 }
 
 impl FeatureNames {
-    /// The names of some features. Fails only if memory is refused.
+    /// The table of the names of these features. Fails only if memory is refused.
     pub fn of(alloc: Global, features: &[Feature]) -> Result<Self, AllocError>
         ensures { IfOk result (λ n. AreFeatureNames n (map (λ f. f.name) features.now)) }
     {
@@ -28,7 +28,7 @@ impl FeatureNames {
         Ok(FeatureNames { first, next })
     }
 
-    /// The number of the first feature with a given name.
+    /// The number of the first feature with a given name; `None` if no feature has the name.
     pub fn first(&self, name: &str) -> Option<usize>
         ensures { (names : List (List ℕ)) → AreFeatureNames self.now names → result ≡ position (λ n. bytes_eq n name.now) names }
     {
@@ -43,8 +43,8 @@ impl FeatureNames {
     }
 }
 
-/// For each feature the number of the next feature with the same name; if there is none, the count of all features. The features are
-/// visited from the last to the first.
+/// At the number of each feature, the number of the next feature with the same name; if there is none, the count of all features. The table
+/// `first` finds the first feature with each name. The features are visited from the last to the first.
 fn next_of_name(
     alloc: Global,
     features: &[Feature],
@@ -56,7 +56,8 @@ fn next_of_name(
 {
     let none = features.len();
     let mut next = vec![in alloc; none; none]?;
-    // For the first feature of each name: the feature of that name that was visited last.
+    // At the number of the first feature with each name: the number of the feature with this name that was visited last, or `none` if no
+    // such feature was visited yet.
     let mut met = vec![in alloc; none; none]?;
     let mut f = none;
     'back: while f > 0 {

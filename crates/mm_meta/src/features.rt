@@ -40,7 +40,8 @@ impl<'a> Resolver<'a> {
         }
     }
 
-    /// The feature that the class `target` declares under a name; `None` if no name is given, or the class declares no such feature.
+    /// The number of the first feature that the class `target` declares under a name; `None` if no name is given, or if the class declares
+    /// no feature with the name.
     fn opposite(&self, target: usize, name: &Option<Text>) -> Option<FeatureNo>
         ensures { result ≡ option_map feature_no (option_and_then (own_named self.now.classes target) name.now) }
     {
@@ -112,7 +113,8 @@ impl<'a> Resolver<'a> {
         Ok(())
     }
 
-    /// All features, in class order.
+    /// The features that all classes declare, with their names resolved: class by class, and for each class in document order. Fails only
+    /// if memory is refused.
     pub fn features(&self, alloc: Global) -> Result<Seq<Feature>, AllocError>
         ensures { IfOk result (λ s. s ≡ features_from self.now 0 self.now.classes) }
     {

@@ -1,4 +1,4 @@
-//! The values that literals write.
+//! The values that texts write as literals of a type, and the default of a type.
 ghost use Rattle.std.specs.Prelude.{◌≡◌, option_and_then};
 ghost use Rattle.mm_types.specs.Integers.{integer};
 ghost use Rattle.mm_types.specs.Resolved.{int_of_bits, truth_value, type_default as default_of_type};
@@ -6,7 +6,7 @@ ghost use Rattle.mm_types.specs.Resolved.{int_of_bits, truth_value, type_default
 use mm_types::integers::integer_of;
 use mm_types::{DataType, Value};
 
-/// The value that a literal writes: a whole number of 32 bits, signed; `None` if the literal writes no such number.
+/// The value that a text writes as a literal of EInt; `None` if the text writes no signed whole number of 32 bits.
 pub fn int_value(text: &str) -> Option<Value>
     ensures { result ≡ option_and_then (int_of_bits 32) (integer text.now) }
 {
@@ -16,7 +16,7 @@ pub fn int_value(text: &str) -> Option<Value>
     }
 }
 
-/// The truth value that a literal writes; `None` if the literal writes none.
+/// The value that a text writes as a literal of EBoolean; `None` for a text other than `true` and `false`.
 pub fn boolean_value(text: &str) -> Option<Value>
     ensures { result ≡ truth_value text.now }
 {
@@ -29,7 +29,7 @@ pub fn boolean_value(text: &str) -> Option<Value>
     None
 }
 
-/// The default of a type: null, 0, false, the first literal.
+/// The default of a type: null for EString, 0 for EInt and ELong, false for EBoolean, and the first literal for an enumeration.
 pub fn type_default(t: DataType) -> Value
     ensures { result ≡ default_of_type t }
 {

@@ -17,34 +17,35 @@ use mm_types::{Class, ClassNo, Enumeration, Feature, FeatureNo, Kind, RawMeta, S
 use std::alloc::{AllocError, Global};
 use std::marker::Model;
 
-/// The greatest number of features with one name that a look-up goes through. If more features have a name, a table has, for each class,
-/// the feature with that name.
+/// The greatest number of features with the same name that a look-up goes through one by one. If more features have a name, a list in
+/// `Meta::common` has, for each class, the feature with this name.
 const FEW: usize = 8;
 
-/// A metamodel with its names resolved into numbers: always well-formed and within the limits. Classes are numbered in document order,
-/// features in class order.
+/// A metamodel with its names resolved into numbers. It is always well-formed and within the limits. Classes are numbered in document
+/// order. Features are numbered class by class, and for each class in document order.
 ///
-/// No look-up takes memory. A look-up that returns an `Option` returns `None` if a number that it is given names nothing; the exception is
-/// `containing`.
+/// No look-up takes memory. A look-up that returns an `Option` returns `None` for a number that no class, feature, enumeration or literal
+/// has; the exception is `containing`.
 #[derive(Drop)]
 pub struct Meta {
     enums: Seq<Enumeration>,
     classes: Seq<Class>,
     features: Seq<Feature>,
-    /// Which classes each class conforms to.
+    /// `conformance[sub][sup]`: whether the class with the number `sub` conforms to the class with the number `sup`.
     conformance: Seq<Seq<bool>>,
     class_table: NameTable,
     literal_tables: Vec<NameTable>,
     /// The names of all features, and for each name the features that have it.
     names: FeatureNames,
-    /// For each name that more than `FEW` features have: a list that has, for each class, the feature with that name. The list is at the
-    /// number of the first feature with that name. For any other feature there is no list, or an empty one.
+    /// For each name that more than `FEW` features have: a list that has, for each class, the feature of the class with this name, or
+    /// `None`. The list is at the number of the first feature with the name. At the number of any other feature there is no list, or an
+    /// empty one.
     common: Vec<Seq<Option<FeatureNo>>>,
-    /// For each class, whether it has a containment.
+    /// For each class, whether it has a containment, own or inherited.
     containments: Vec<bool>,
-    /// The default of a reference.
+    /// The default of a reference: null.
     null: Value,
-    /// All features of a resource.
+    /// All features of a resource: only `contents()`.
     contents: [FeatureNo; 1],
 }
 
@@ -63,7 +64,8 @@ impl Meta {
     ghost use Rattle.mm_types.specs.OfDocument.{IsOfDocument};
     ghost use Rattle.mm_meta.specs.Resolution.{IsResolutionOf};
 
-    /// The metamodel that a well-formed document gives. Fails only if memory is refused.
+    /// The metamodel that the well-formed document `raw` gives; `resolution` has the classes and features of this document. Fails only if
+    /// memory is refused.
     pub fn new(alloc: Global, raw: RawMeta, resolution: Resolution) -> Result<Self, AllocError>
         requires well_formed { WellFormed raw }
         requires resolution { IsResolutionOf raw resolution }
@@ -145,7 +147,8 @@ impl Meta {
         by_class.as_slice().get(class.0 as usize).copied()
     }
 
-    /// The feature of a class with a given name. The search looks at each feature with this name, from the feature `from` on.
+    /// The feature of a class with a given name. The search looks at the features with this name, from the feature `from` on, until the
+    /// class has one of them. No feature with the name before `from` is a feature of the class.
     fn search(&self, class: ClassNo, _name: &str, from: usize) -> Option<FeatureNo>
         requires { ComesTo self.now class _name.now from }
         ensures { result ≡ m.feature_by_name self.now class _name.now }
@@ -184,8 +187,8 @@ impl Meta {
         at < next.len()
     }
 
-    /// If `feature` is the first of more than `FEW` features with one name: a list that has, for each class, the feature with that name.
-    /// For any other feature the list is empty.
+    /// If `feature` is the first of more than `FEW` features with the same name: a list that has, for each class, the feature of the class
+    /// with this name, or `None`. For any other feature an empty list. Fails only if memory is refused.
     fn by_class(&self, alloc: Global, feature: usize) -> Result<Seq<Option<FeatureNo>>, AllocError>
         requires { feature < length self.now.features }
         ensures { IfOk result (IsRow self.now (m.feature_name self.now (feature_no feature))) }
@@ -211,8 +214,8 @@ impl Meta {
         Ok(rows)
     }
 
-    /// Keeps a list for each name that more than `FEW` features have. The list has, for each class, the feature with that name, so that no
-    /// look-up goes through all features with the name.
+    /// Fills `common`: a list for each name that more than `FEW` features have. The list has, for each class, the feature of the class with
+    /// this name, so that a look-up need not go through all features with the name. If memory is refused, nothing changes.
     fn keep_common(&mut self, alloc: Global) -> Result<(), AllocError>
         ensures { self.new ≡ self.old }
     {
@@ -221,7 +224,7 @@ impl Meta {
         Ok(())
     }
 
-    /// Whether a class has a containment. Looks at each feature of the class.
+    /// Whether a class has a containment, own or inherited. Looks at the features of the class until one is a containment.
     fn finds_containment(&self, class: ClassNo) -> bool
         ensures { result ≡ has_containment self.now class }
     {
@@ -241,7 +244,7 @@ impl Meta {
         Ok(found)
     }
 
-    /// Keeps, for each class, whether it has a containment.
+    /// Fills `containments`: for each class, whether it has a containment, own or inherited. If memory is refused, nothing changes.
     fn keep_containments(&mut self, alloc: Global) -> Result<(), AllocError>
         ensures { self.new ≡ self.old }
     {
@@ -275,7 +278,8 @@ impl Meta {
         Some(class.all.as_slice())
     }
 
-    /// Whether the class `sub` is the class `sup` or inherits from it (EClass.isSuperTypeOf, with the receiver and the argument exchanged).
+    /// Whether the class `sub` is the class `sup` or inherits from `sup` (EClass.isSuperTypeOf, with the receiver and the argument
+    /// exchanged); false if `sub` or `sup` is the number of no class.
     pub fn conforms(&self, sub: ClassNo, sup: ClassNo) -> bool
         ensures { result ≡ m.conforms self.now sub sup }
     {
@@ -285,8 +289,8 @@ impl Meta {
         }
     }
 
-    /// Whether a feature is among all features of a class, own and inherited: whether the class conforms to the feature's owner. Takes
-    /// constant time.
+    /// Whether a feature is among all features of a class, own and inherited: exactly if the class conforms to the class that declares the
+    /// feature. Takes constant time.
     pub fn has_feature(&self, class: ClassNo, feature: FeatureNo) -> bool
         ensures { result ≡ m.has_feature self.now class feature }
     {
@@ -307,7 +311,7 @@ impl Meta {
         }
     }
 
-    /// The opposite of a reference (EReference.getEOpposite).
+    /// The opposite of a reference (EReference.getEOpposite); `None` for an attribute, and for a reference without opposite.
     pub fn opposite(&self, feature: FeatureNo) -> Option<FeatureNo>
         ensures opposite { result ≡ m.opposite self.now feature }
         ensures shape { result ≡ (shapes.shape self.now feature).opposite }
@@ -331,9 +335,9 @@ impl Meta {
         }
     }
 
-    /// The containing feature of a feature's links: the feature itself, if it is a containment reference; its opposite, if it is a
-    /// container reference (EReference.isContainment, isContainer); `None` for any other feature. `contents()` is a containment too. If no
-    /// feature has the number, `contents()` is returned. Takes no memory.
+    /// The containing feature of a feature's links (EReference.isContainment, isContainer): the feature itself, if it is a containment; its
+    /// opposite, if it is a container reference; `None` for any other feature. `contents()` is a containment, and so it is returned for
+    /// itself. It is also returned if no feature has the number. Takes no memory.
     pub fn containing(&self, feature: FeatureNo) -> Option<FeatureNo>
         ensures { result ≡ (shapes.shape self.now feature).containing }
     {
@@ -366,7 +370,7 @@ impl Meta {
         }
     }
 
-    /// The name of a literal, by the position of its enumeration and its index there.
+    /// The name of a literal, by the position of its enumeration in the document and the index of the literal in the enumeration.
     pub fn literal(&self, enumeration: u32, index: u32) -> Option<&str>
         ensures { option_copied result ≡ m.literal self.now enumeration index }
     {
@@ -380,7 +384,7 @@ impl Meta {
         Some(literal.as_str())
     }
 
-    /// The index of the literal with a given name in an enumeration.
+    /// The index of the literal with a given name in an enumeration, which is given by its position in the document.
     pub fn literal_by_name(&self, enumeration: u32, name: &str) -> Option<u32>
         ensures { result ≡ m.literal_by_name self.now enumeration name.now }
     {

@@ -8,7 +8,7 @@ use indexmap::IndexMap;
 use mm_types::{Class, Enumeration, Feature, RawClass, RawFeature, Text};
 use std::alloc::{AllocError, Global};
 
-/// What has a name.
+/// A type whose values have names.
 pub trait Named {
     ghost name: { Self → List ℕ };
 
@@ -69,8 +69,8 @@ impl Named for Text {
 #[derive(Drop)]
 pub struct NameTable {
     positions: IndexMap<String, usize>,
-    /// At the slot of a name (`slot_of`) is a hint: the index in `positions` at which the name is looked for first, since this is faster
-    /// than hashing the name. A hint may be any number; if the name is not at that index, the name is found by its hash.
+    /// At the slot of a name (`slot_of`) is a hint: an index in `positions`, at which the name is looked for first, since this is faster
+    /// than hashing the name. A hint may be any number. If the name is not at this index, the name is looked for by its hash.
     hints: Vec<u32>,
 }
 
@@ -84,7 +84,7 @@ impl NameTable {
         }
     }
 
-    /// Adds the name with the position `at`. A name that is in the table already keeps its earlier position.
+    /// Adds a name with the position `at`. If the table has the name already, the name keeps its earlier position, and nothing changes.
     fn insert(&mut self, alloc: Global, name: &str, at: usize) -> Result<(), AllocError>
         ensures { OnOk result ((names : List (List ℕ)) → length names ≡ at → IsTableOf self.old names → IsTableOf self.new (names ++ name.now ∷ [])) }
     {
@@ -95,7 +95,7 @@ impl NameTable {
         Ok(())
     }
 
-    /// The table of the names of some items.
+    /// The table of the names of these items. Fails only if memory is refused.
     pub fn of<T: Named>(alloc: Global, items: &[T]) -> Result<Self, AllocError>
         ensures { IfOk result (λ t. IsTableOf t (map T.name items.now)) }
     {
@@ -117,7 +117,7 @@ impl NameTable {
         }
     }
 
-    /// The first position of a name; `None` if the name is not at the index that its hint gives.
+    /// The first position of a name, found by its hint; `None` if the name is not at the index that the hint gives.
     fn hinted(&self, name: &str) -> Option<usize>
         ensures { IfSome result (λ at. get_by_text self.now.positions name.now ≡ Some at) }
     {
@@ -130,8 +130,8 @@ impl NameTable {
         }
     }
 
-    /// The first position of a name, which is found by its hash. This search is a function of its own, so that a search by a hint spills no
-    /// registers.
+    /// The first position of a name; `None` if the table does not have the name. The name is looked for by its hash. This search has its
+    /// own function, so that a search by a hint spills no registers.
     #[cold]
     fn hashed(&self, name: &str) -> Option<usize>
         ensures { result ≡ get_by_text self.now.positions name.now }
@@ -140,8 +140,8 @@ impl NameTable {
     }
 }
 
-/// The hints of some names, two to four times as many as there are names, or one if there are no names. If names share a slot, the first of
-/// them has its hint there.
+/// The hints for the names in `positions`. There are two to four times as many hints as names, and one hint if there are no names. If names
+/// have the same slot, the hint there is the index of the first of these names. At a slot that no name has, the hint is `u32::MAX`.
 fn hints_for(alloc: Global, positions: &IndexMap<String, usize>) -> Result<Vec<u32>, AllocError> {
     let count = positions.len().min(u32::MAX as usize);
     let mut hints = vec![in alloc; u32::MAX; (2 * count).next_power_of_two()]?;
@@ -158,7 +158,8 @@ fn hints_for(alloc: Global, positions: &IndexMap<String, usize>) -> Result<Vec<u
     Ok(hints)
 }
 
-/// The slot of a name among `hints` hints; `hints` is a power of two. The length and three bytes of the name distinguish most names.
+/// The slot of a name among `hints` hints; `hints` is a power of two. The slot depends on the length, the first byte and the last two bytes
+/// of the name, which distinguish most names.
 fn slot_of(name: &str, hints: usize) -> usize {
     let bytes = name.as_bytes();
     let len = bytes.len();

@@ -20,7 +20,8 @@ pub struct Resolution {
 impl Resolution {
     ghost use Rattle.mm_meta.specs.Resolution.{IsResolutionOf};
 
-    /// The classes and features of a well-formed document, given its graph of supertypes. Fails only if memory is refused.
+    /// The resolution of the well-formed document of `resolver`; `graph` has the direct supertypes of each class. Fails only if memory is
+    /// refused.
     pub fn of(
         alloc: Global,
         resolver: &Resolver<'_>,
@@ -41,7 +42,7 @@ impl Resolution {
     }
 }
 
-/// The classes of a well-formed metamodel.
+/// The classes of a well-formed metamodel; `graph` has the direct supertypes of each class.
 fn classes_of(
     alloc: Global,
     resolver: &Resolver<'_>,
@@ -55,7 +56,8 @@ fn classes_of(
     resolver.resolved_classes(alloc, graph, all)
 }
 
-/// All features of each class of a well-formed metamodel.
+/// For each class of a well-formed metamodel, the numbers of all its features, own and inherited; `graph` has the direct supertypes of each
+/// class.
 fn all_features(
     alloc: Global,
     resolver: &Resolver<'_>,

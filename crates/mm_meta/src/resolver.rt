@@ -38,7 +38,7 @@ impl<'a> Model for Resolver<'a> {
 }
 
 impl<'a> Resolver<'a> {
-    /// A resolver of a metamodel document. Fails only if memory is refused.
+    /// The resolver of the metamodel document `raw`, which may be ill-formed. Fails only if memory is refused.
     pub fn new(alloc: Global, raw: &'a RawMeta) -> Result<Self, AllocError>
         ensures { IfOk result (λ r. r ≡ raw.now) }
     {
@@ -55,21 +55,22 @@ impl<'a> Resolver<'a> {
         })
     }
 
-    /// The number of the class with a given name.
+    /// The number of the first class with a given name; `None` if no class has the name.
     pub fn class(&self, name: &str) -> Option<usize>
         ensures { result ≡ class_named self.now.classes name.now }
     {
         self.class_table.position(name)
     }
 
-    /// The position of the enumeration with a given name.
+    /// The position of the first enumeration with a given name; `None` if no enumeration has the name.
     pub fn enumeration(&self, name: &str) -> Option<usize>
         ensures { result ≡ enum_named self.now.enums name.now }
     {
         self.enum_table.position(name)
     }
 
-    /// The data type or enumeration with a given name.
+    /// The data type with a given name: EString, EInt, ELong, EBoolean, or else the first enumeration with the name; `None` if no data type
+    /// has the name.
     pub fn data_type(&self, name: &str) -> Option<DataType>
         ensures { result ≡ data_type_named self.now.enums name.now }
     {
@@ -89,7 +90,7 @@ impl<'a> Resolver<'a> {
         Some(DataType::Enum(e as u32))
     }
 
-    /// The index of the literal with a given name in the enumeration `e`.
+    /// The index of the first literal with a given name in the enumeration at the position `e`; `None` if there is no such literal.
     fn literal(&self, e: u32, name: &str) -> Option<u32>
         ensures { result ≡ literal_named self.now.enums e name.now }
     {
@@ -115,14 +116,14 @@ impl<'a> Resolver<'a> {
         }
     }
 
-    /// The index of the feature with a given name among the features that a class declares.
+    /// The index of the first feature with a given name among the features that a class declares; `None` if there is no such feature.
     pub fn own_position(&self, class: usize, name: &str) -> Option<usize>
         ensures { result ≡ own_position self.now.classes class name.now }
     {
         position_at(self.own_tables.as_slice(), class, name)
     }
 
-    /// The number of the feature that a class declares under a given name.
+    /// The number of the first feature that a class declares under a given name; `None` if there is no such feature.
     pub fn own_named(&self, class: usize, name: &str) -> Option<u32>
         ensures { result ≡ own_named self.now.classes class name.now }
     {
@@ -145,7 +146,7 @@ impl<'a> Resolver<'a> {
         self.classes
     }
 
-    /// The numbers of the features that each class declares.
+    /// For each class, the numbers of the features that it declares.
     pub fn own(&self) -> &[Seq<u32>]
         ensures value { result.now ≡ own_of self.now.classes }
         ensures fits { IsTrue (is_within_limits self.now) }

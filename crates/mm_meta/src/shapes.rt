@@ -8,7 +8,7 @@ use crate::meta::Meta;
 use mm_types::{ClassNo, DataType, FeatureNo, Kind};
 
 impl Meta {
-    /// Whether a class is there and is concrete.
+    /// Whether some class has the number, and is concrete.
     pub fn is_concrete(&self, class: ClassNo) -> bool
         ensures { result ≡ m.is_concrete self.now class }
     {
@@ -41,7 +41,8 @@ impl Meta {
         }
     }
 
-    /// Whether a list of `len` values is full: its feature has an upper bound above 1, and the list has reached it. Takes no memory.
+    /// Whether a list of `len` values at a feature is full: the upper bound of the feature is above 1, and `len` is not below the upper
+    /// bound. Takes no memory.
     pub fn is_full(&self, feature: FeatureNo, len: u32) -> bool
         ensures { result ≡ is_full_list (shape self.now feature) len }
     {
@@ -64,7 +65,8 @@ impl Meta {
         }
     }
 
-    /// Whether a feature is unsettable: being set is then a state of its own (EMF: EStructuralFeature.isUnsettable). Takes no memory.
+    /// Whether a feature is unsettable: then each object with the feature has a flag, which says whether the feature is set, whatever its
+    /// value is (EMF: EStructuralFeature.isUnsettable). Takes no memory.
     pub fn is_unsettable(&self, feature: FeatureNo) -> bool
         ensures { result ≡ (shape self.now feature).is_unsettable }
     {
@@ -97,7 +99,8 @@ impl Meta {
         }
     }
 
-    /// The name of the literal at an index of a feature's type; empty if the type has no such literal. Takes no memory.
+    /// The name of the literal at an index of a feature's type; empty if the type has no such literal, or if no feature has the number.
+    /// Takes no memory.
     pub fn literal_text(&self, feature: FeatureNo, index: u32) -> &str
         ensures { result.now ≡ m.literal_text self.now feature index }
     {

@@ -1,4 +1,4 @@
-//! The tables that a resolver is made of.
+//! The tables that a resolver is made of. A `Meta` has the tables of literals too.
 ghost use Rattle.std.specs.Prelude.{◌≡◌, ◌+◌, ◌<◌, ◌^◌, ◌≤◌, IfOk, IsTrue, length, map};
 ghost use Rattle.std.specs.List.{list_all, range_with_len};
 ghost use Rattle.mm_types.specs.Raw.{class_fits};
@@ -9,7 +9,7 @@ use crate::name_table::NameTable;
 use mm_types::{Enumeration, RawClass, Seq};
 use std::alloc::{AllocError, Global};
 
-/// For each class, a table of the features that the class declares.
+/// For each class, the table of the names of the features that the class declares.
 pub fn own_tables(alloc: Global, classes: &[RawClass]) -> Result<Vec<NameTable>, AllocError>
     ensures { IfOk result (λ v. AreTablesOf v.items (map (λ c. map (λ f. f.name) c.features) classes.now)) }
 {
@@ -20,7 +20,7 @@ pub fn own_tables(alloc: Global, classes: &[RawClass]) -> Result<Vec<NameTable>,
     Ok(tables)
 }
 
-/// For each enumeration, a table of its literals.
+/// For each enumeration, the table of its literals.
 pub fn literal_tables(alloc: Global, enums: &[Enumeration]) -> Result<Vec<NameTable>, AllocError>
     ensures { IfOk result (λ v. AreTablesOf v.items (map (λ e. e.literals) enums.now)) }
 {
@@ -43,7 +43,7 @@ fn numbers_from(alloc: Global, first: u32, count: u32) -> Result<Seq<u32>, Alloc
     Ok(Seq::from_vec(numbers))
 }
 
-/// The numbers of the features that each class declares.
+/// For each class, the numbers of the features that it declares: features are numbered class by class, from 0.
 pub fn own_numbers(alloc: Global, classes: &[RawClass]) -> Result<Vec<Seq<u32>>, AllocError>
     requires few { length classes.now ≤ 1000 }
     requires fits { IsTrue (list_all class_fits classes.now) }

@@ -4,7 +4,7 @@ use Rattle.mm_types.specs.Raw.{RawMetamodel, is_within_limits}
 use Rattle.mm_types.specs.Resolved.{Metamodel, resolved_metamodel}
 use Rattle.mm_types.specs.WellFormed.{WellFormed}
 
--- a metamodel is given by some document; the document is well-formed and within the limits
+-- the metamodel m is what some document resolves to; this document is well-formed and within the limits
 pub record IsOfDocument (m : Metamodel) : Type 0 where
   pub raw : RawMetamodel
   pub fits : IsTrue (is_within_limits raw)

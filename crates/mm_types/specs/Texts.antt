@@ -1,4 +1,4 @@
--- The bytes of a text, however it is kept.
+-- The bytes of a text, whether it is stored as a short or as a long text.
 use Rattle.std.specs.Prelude.{ℕ, List, string_bytes}
 use Rattle.mm_types.specs.declared.text.Layout.{Layout}
 use Rattle.mm_types.specs.declared.text.Layout.TheVariants.{Long, Short}

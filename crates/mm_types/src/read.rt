@@ -1,4 +1,4 @@
-//! The reads of a repository, as values: each read has the thing that is asked about, such as an end or an object, and the question.
+//! The reads of a repository, as values. A read names the thing that is asked about, such as an end or an object, and the question.
 use crate::end::End;
 use crate::numbers::{AdapterNo, Node, ObjectNo, ResourceNo};
 use crate::text::Text;
@@ -12,7 +12,7 @@ pub enum Read {
     Of(ObjectNo, ObjectRead),
     /// Asks about a node and the nodes below it.
     Under(Node, NodeRead),
-    /// Asks for the text of a resource (EMF: Resource.save).
+    /// Asks for the document of a resource, as a text (EMF: Resource.save).
     Save(ResourceNo),
     /// Asks for the object at an address (EMF: ResourceSet.getEObject, without loading).
     ObjectAt(Text),
@@ -23,7 +23,7 @@ pub enum Read {
 /// A question about a feature of a node.
 #[derive(Clone, Copy, Drop)]
 pub enum EndRead {
-    /// The value or the list of the feature (EMF: EObject.eGet; MOF 2.5.1: Reflection, Object.get).
+    /// The value of a single feature, or the list of a many-valued feature (EMF: EObject.eGet; MOF 2.5.1: Reflection, Object.get).
     Get,
     /// Whether the feature is set (EMF: EObject.eIsSet; MOF 2.5.1: Reflection, Object.isSet).
     IsSet,
@@ -32,15 +32,16 @@ pub enum EndRead {
 /// A question about an object.
 #[derive(Clone, Copy, Drop)]
 pub enum ObjectRead {
-    /// Its class (EMF: EObject.eClass; MOF 2.5.1: Reflection, Element.getMetaClass).
+    /// The class of the object (EMF: EObject.eClass; MOF 2.5.1: Reflection, Element.getMetaClass).
     Class,
-    /// The object that contains it (EMF: EObject.eContainer; MOF 2.5.1: Reflection, Object.container).
+    /// The object that directly contains the object, if there is one (EMF: EObject.eContainer; MOF 2.5.1: Reflection, Object.container).
     Container,
-    /// The resource that it is in, directly or below other objects (EMF: EObject.eResource).
+    /// The resource that the object is in, directly or below other objects, if there is one (EMF: EObject.eResource).
     Resource,
-    /// Which of its features have fewer values than they should (EMF: Diagnostician.validate, of multiplicities).
+    /// The features of the object that have fewer values than their lower bounds (EMF: Diagnostician.validate, of multiplicities). Here a
+    /// single feature counts as having no value if it is null, or if it is unsettable and not set.
     Validate,
-    /// Its fragment in its resource (EMF: Resource.getURIFragment).
+    /// The fragment of the object in its resource (EMF: Resource.getURIFragment).
     Fragment,
 }
 
@@ -56,8 +57,8 @@ pub enum NodeRead {
 /// Which notifications of an adapter are counted.
 #[derive(Clone, Copy, Drop)]
 pub enum Tally {
-    /// All notifications that it got.
+    /// All notifications that the adapter got.
     Told,
-    /// The notifications that it keeps.
+    /// The notifications that the adapter keeps.
     Kept,
 }

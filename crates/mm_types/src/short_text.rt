@@ -7,8 +7,8 @@ use std::str;
 /// The greatest length of a short text, in bytes.
 const SHORT: usize = 22;
 
-/// At most 22 bytes of UTF-8. The length is a byte, since a field of more bytes would be aligned: then a short text with the tag of an enum
-/// would take more than 24 bytes.
+/// A text of at most 22 bytes of UTF-8. The field `len` is a single byte, since a longer field would be aligned, and a short text with the
+/// tag of the enum `Layout` would take more than 24 bytes.
 #[derive(Drop)]
 pub(crate) struct ShortText {
     bytes: [u8; SHORT],
@@ -26,7 +26,7 @@ impl Model for ShortText {
 }
 
 impl ShortText {
-    /// A copy of a text, or `None` if it is longer than 22 bytes.
+    /// A copy of a text; `None` if the text is longer than 22 bytes.
     #[inline]
     pub fn from_str(text: &str) -> Option<Self>
         ensures fits { is_some result ≡ nat_le (length text.now) 22 }

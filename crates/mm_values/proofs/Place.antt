@@ -1,12 +1,12 @@
 -- The index that a search finds among entries in the order of their attributes, and an edit at that index.
-use Rattle.std.proofs.Common.{◌≡◌, ℕ, ◌+◌, ◌-◌, ◌<◌, ◌≤◌, eqb, cond, Bool, List, length, get_or, set, None, Result, Ok, Err, IfOk, IfErr, unwrap_or, refl, inl, inr, sym, ap, subst, ◌∙◌, arith, [], ◌∷◌, ◌++◌, false, eq-eqb, true}
+use Rattle.std.proofs.Common.{◌≡◌, ℕ, ◌+◌, ◌-◌, ◌<◌, ◌≤◌, eqb, cond, Bool, List, length, get_or, set, None, Result, Ok, Err, IfOk, IfErr, unwrap_or, refl, inl, inr, sym, ap, subst, ◌∙◌, arith, [], false, eq-eqb, true}
 use Rattle.std.specs.List.{insert}
 use Rattle.std.specs.List.Sorted.{IsSearchInRange, IsBinarySearchResult, IsNonDecreasingBy}
 use Rattle.std.specs.Ordering.{nat_cmp, ordering_index}
 use Rattle.std.specs.FinMap as map
 use Rattle.std.proofs.lemmas.Cmp.{ranked}
 use Rattle.std.proofs.lemmas.List.Sorted.{IsNonDecreasingBy-from_default}
-use Rattle.std.proofs.lemmas.List.Edits.{insert_end, length-insert, get_or-insert_below, get_or-insert_at, get_or-insert_above}
+use Rattle.std.proofs.lemmas.List.Edits.{length-insert, get_or-insert_below, get_or-insert_at, get_or-insert_above}
 use Rattle.std.proofs.lemmas.Bool.Decides.{nat_tests}
 use Rattle.std.proofs.lemmas.Grind.{common_steps}
 use Rattle.std.proofs.lemmas.Bool.{cases_eq, cases_lt, cases_order}
@@ -162,10 +162,6 @@ module _ (l : List Entry) (f at : ℕ) (gap : IsGapFor l f at) (e : Entry) (is :
   pub stored_in-put_new : (vs : List Value) (b : Bool) → e.list.items ≡ vs → e.flag ≡ b → stored_in (insert l at e) ≡ with_stored (stored_in l) f (record { list = vs; flag = b })
   stored_in-put_new vs b items flag = stored_in-insert ∙ ap (with_stored (stored_in l) f) (λ i. record { list = items i; flag = flag i })
 
-  -- the same if the gap is at the end
-  pub stored_in-pushed : (vs : List Value) (b : Bool) → at ≡ length l → e.list.items ≡ vs → e.flag ≡ b → stored_in (l ++ e ∷ []) ≡ with_stored (stored_in l) f (record { list = vs; flag = b })
-  stored_in-pushed vs b end items flag = ap stored_in (sym (ap (λ i. insert l i e) end ∙ insert_end l e)) ∙ stored_in-put_new vs b items flag
-
   -- an entry that is put into the gap changes nothing that is stored
   pub stored_in-made : stored_of e ≡ nothing_stored → stored_in (insert l at e) ≡ stored_in l
   stored_in-made holds = stored_in-insert ∙ ap (with_stored (stored_in l) f) (holds ∙ sym (stored_in_gap l f at gap)) ∙ with_stored_same l f
@@ -178,15 +174,6 @@ module _ (l : List Entry) (f at : ℕ) (gap : IsGapFor l f at) (e : Entry) (is :
 
   entry_above : (i : ℕ) → at ≤ i → get_or (insert l at e) (i + 1) (place_for 0) ≡ get_or l i (place_for 0)
   entry_above i above = get_or-insert_above l at e (place_for 0) i above gap.in_range
-
-  feature_above : (i : ℕ) → at < i → feature_at (insert l at e) i ≡ feature_at l (i - 1)
-  feature_above i above = subst (λ q. feature_at (insert l at e) q ≡ feature_at l (i - 1)) {x = i - 1 + 1} (omega arith) (ap (λ (e : Entry). e.feature.0) (entry_above (i - 1) (omega arith)))
-
-  -- an insert into the gap keeps the order: each number is an old one below the gap, f at the gap, or an old one moved up by one
-  pub rising_insert : IsRising l → IsRising (insert l at e)
-  rising_insert rising i j lt in_range =
-      let length_new = length-insert l at e gap.in_range in
-      grind (arith, feature_below i, feature_here i, feature_above i, feature_below j, feature_here j, feature_above j, rising i j, rising i (j - 1), rising (i - 1) (j - 1), gap.smaller_before i, gap.greater_after (j - 1))
 
   -- the new entry is at the gap
   pub is_at_made : IsAt (insert l at e) f at

@@ -1,9 +1,7 @@
 pub mod Stored
-pub mod NewValues
 pub mod Attributes
 pub mod ListEdits
 pub mod Values
-pub mod Plan
 pub mod Slots
 pub mod Uris
 pub mod Room

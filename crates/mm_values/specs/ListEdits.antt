@@ -12,13 +12,14 @@ list_after_edit (Insert i v) vs = insert vs i v
 list_after_edit (Remove i) vs = remove vs i
 list_after_edit (Move to from) vs = values_after_move vs to from
 
--- how much capacity an edit takes
+-- how much capacity an edit takes in its list
 abbrev pub list_edit_capacity : ListEdit → ℕ
 list_edit_capacity (Insert i v) = 1
 list_edit_capacity (Remove i) = 0
 list_edit_capacity (Move to from) = 0
 
--- the attribute's list has the capacity that the edit needs
+-- the list of the attribute f has the capacity that an edit needs: an insert needs an entry whose list can take one more value, and a
+-- removal or a move needs nothing
 abbrev pub IsReadyFor : List Entry → ℕ → ListEdit → Type 0
 IsReadyFor l f (Insert i v) = HasPlace l f 1
 IsReadyFor l f (Remove i) = Unit {0}

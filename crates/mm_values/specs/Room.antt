@@ -25,7 +25,7 @@ abbrev pub is_insert_at : ℕ → ℕ → ValueEdit → Bool
 is_insert_at o f (InsertValue x g i w u) = nat_eq o x.0 && nat_eq f g.0
 is_insert_at o f _ = false
 
--- the list into which an edit inserts a value, if it inserts one
+-- the list into which an edit inserts a value, named by its object and attribute; `None` if the edit inserts no value
 abbrev pub inserted_in : ValueEdit → Option (ObjectNo × FeatureNo)
 inserted_in (InsertValue x g i w u) = Some (x, g)
 inserted_in _ = None
@@ -38,28 +38,29 @@ abbrev pub is_insert_in : Option (ObjectNo × FeatureNo) → ValueEdit → Bool
 is_insert_in None e = false
 is_insert_in (Some p) e = is_insert_at p.0.0 p.1.0 e
 
--- how much capacity an edit takes in the list of each object under each attribute
+-- how much capacity an edit takes in the list of each object under each attribute: how many values the edit puts or inserts there
 abbrev pub places_taken : ValueEdit → ℕ → ℕ → ℕ
 places_taken (PutList x g list flag) = taken_at x g (length list)
 places_taken (InsertValue x g i w u) = taken_at x g 1
 places_taken _ = none_taken
 
--- how much capacity a plan needs in the list of the object o under the attribute f: none if the plan inserts no value into this list
+-- how much capacity a plan needs in the list of the object o under the attribute f: 0 if the plan inserts no value into this list, and
+-- otherwise what all edits of the plan take there
 abbrev pub capacity_needed : List ValueEdit → ℕ → ℕ → ℕ
 capacity_needed plan o f = if list_any (is_insert_at o f) plan then sum_by (λ e. places_taken e o f) plan else 0
 
--- for an edit that puts a list, or inserts a value into a list: the list has the capacity that the plan needs in it, as `HasPlaceAt` says.
--- Nothing is required of other edits
+-- there is capacity for an edit of a plan: the list that the edit puts, or into which it inserts a value, has the capacity that the whole
+-- plan needs in this list, as `HasPlaceAt` says. For other edits nothing is required
 abbrev pub HasPlaceFor : Slots → List ValueEdit → ValueEdit → Type 0
 HasPlaceFor r plan (PutList x g list flag) = HasPlaceAt r x.0 g.0 (capacity_needed plan x.0 g.0)
 HasPlaceFor r plan (InsertValue x g i w u) = HasPlaceAt r x.0 g.0 (capacity_needed plan x.0 g.0)
 HasPlaceFor r plan _ = Unit {0}
 
--- if a list is given, it has the capacity that the plan needs
+-- if a list is given, it has the capacity that the plan needs in it
 abbrev pub HasPlacesIn : Slots → List ValueEdit → Option (ObjectNo × FeatureNo) → Type 0
 HasPlacesIn r plan list = IfSome list (λ p. HasPlaceAt r p.0.0 p.1.0 (capacity_needed plan p.0.0 p.1.0))
 
--- the plan can be applied with no memory taken
+-- the plan can be applied without taking memory
 pub record HasRoom (v : Values) (plan : List ValueEdit) : Type 0 where
   pub slots : v.objects.next + count_by is_new_object plan ≤ length v.objects.lists
   pub places : All (HasPlaceFor v.objects plan) plan

@@ -21,11 +21,11 @@ is_nothing h = is_nil h.list && not h.flag
 abbrev pub StoredMap : Type 0
 StoredMap = map.FinMap nat_cmp Stored
 
--- the map with h under f; if h is nothing, the map has no entry for f
+-- the map m with h under the attribute f; if h is nothing (`is_nothing`), the result has no entry for f
 abbrev pub with_stored : StoredMap → ℕ → Stored → StoredMap
 with_stored m f h = if is_nothing h then map.remove m f else map.insert m f h
 
--- what is stored after g changed the list of values; the set flag stays as it was
+-- h after the function g changed its list of values; the set flag stays as it was
 abbrev pub list_changed : (List Value → List Value) → Stored → Stored
 list_changed g h = record { list = g h.list; flag = h.flag }
 

@@ -1,4 +1,4 @@
-//! What one object holds under its attributes.
+//! What one object stores under its attributes: values and set flags.
 ghost use Rattle.std.specs.Prelude.{◌≡◌, ℕ, ◌-◌, ◌≤◌, [], length, option_copied, IfOk, IfErr, OnErr, OnOk};
 ghost use Rattle.std.specs.List.{insert};
 ghost use Rattle.mm_values.specs.Stored.{items_of, with_stored};
@@ -6,14 +6,14 @@ ghost use Rattle.mm_values.specs.Attributes.{change_stored, stored_in, stored_un
 ghost use Rattle.mm_values.specs.ListEdits.{list_after_edit, list_edit_capacity, IsReadyFor};
 
 use crate::list_edit::ListEdit;
-use crate::new_values::NewValues;
+use crate::new_values::{NewValues, list_of, put_in};
 use mm_types::FeatureNo;
 use std::alloc::{AllocError, Global};
 use std::marker::Model;
 use value_lists::ValueList;
 
-/// What is stored under one attribute. If the list of an entry is empty and its flag is off, nothing is stored: the entry was made in
-/// advance for a list that is put later, or its values were taken out.
+/// What is stored under one attribute: its values and its set flag. An entry with an empty list and a flag that is off stores nothing: the
+/// entry was made in advance for values that come later, or its values were taken out, or no values were put.
 #[derive(Drop)]
 pub(crate) struct Entry {
     feature: FeatureNo,
@@ -41,7 +41,7 @@ impl Model for AttributeLists {
 }
 
 impl AttributeLists {
-    /// Nothing stored, and no entry. Takes no memory.
+    /// No entries, so nothing is stored. Takes no memory.
     pub fn new(alloc: Global) -> Self
         ensures { result ≡ [] }
     {
@@ -50,7 +50,7 @@ impl AttributeLists {
         }
     }
 
-    /// The list under an attribute; `None` if the attribute has no entry, and so no values.
+    /// The list under an attribute; `None` if the attribute has no entry, and therefore no values.
     pub fn list(&self, feature: FeatureNo) -> Option<&ValueList>
         ensures { items_of (option_copied result) ≡ (stored_under self.now feature).list }
     {
@@ -60,7 +60,7 @@ impl AttributeLists {
         }
     }
 
-    /// The set flag of an attribute, which is off without an entry.
+    /// The set flag of an attribute; off if the attribute has no entry.
     pub fn flag(&self, feature: FeatureNo) -> bool
         ensures { result ≡ (stored_under self.now feature).flag }
     {
@@ -70,8 +70,8 @@ impl AttributeLists {
         }
     }
 
-    /// Makes an entry for an attribute, if it has none, and reserves capacity for more values of the list in the entry. `is_asked` says
-    /// whether the list is looked up by value. Fails only if memory is refused.
+    /// Makes an entry for an attribute, if the attribute has none, and reserves capacity for `additional` more values in the list of the
+    /// entry. `is_asked` says whether the list is looked up by value. Fails only if memory is refused.
     pub fn make_place(
         &mut self,
         feature: FeatureNo,
@@ -89,8 +89,8 @@ impl AttributeLists {
         self.reserve(feature, at, additional, is_asked)
     }
 
-    /// If the list under an attribute is long, moves the list into pieces, so that edits of the list are fast. Fails only if memory is
-    /// refused.
+    /// If the list under an attribute is longer than one piece, moves the list into pieces, so that edits of the list are fast. Fails only
+    /// if memory is refused.
     pub fn make_pieces(&mut self, feature: FeatureNo) -> Result<(), AllocError>
         ensures stored { stored_in self.new ≡ stored_in self.old }
         ensures kept { (f n : ℕ) → HasPlace self.old f n → HasPlace self.new f n }
@@ -101,7 +101,7 @@ impl AttributeLists {
         }
     }
 
-    /// Makes an entry for an attribute, if it has none, and returns the index of the entry.
+    /// Makes an entry for an attribute, if the attribute has none, and returns the index of the entry.
     fn make_entry(&mut self, feature: FeatureNo) -> Result<usize, AllocError>
         ensures stored { stored_in self.new ≡ stored_in self.old }
         ensures kept { (f n : ℕ) → HasPlace self.old f n → HasPlace self.new f n }
@@ -122,8 +122,8 @@ impl AttributeLists {
         }
     }
 
-    /// Reserves capacity for `additional` more values of the list in the entry of an attribute. The entry is at the index `at`. `is_asked`
-    /// says whether the list is looked up by value.
+    /// Reserves capacity for `additional` more values in the list of the attribute's entry, which is at the index `at`. `is_asked` says
+    /// whether the list is looked up by value.
     fn reserve(
         &mut self,
         feature: FeatureNo,
@@ -140,8 +140,8 @@ impl AttributeLists {
         self.entries[at].list.reserve(alloc, additional, is_asked)
     }
 
-    /// Makes sure that there is capacity for one more entry. If there is none, reserves capacity for two entries at first, and then for a
-    /// quarter more each time, since most objects have few entries.
+    /// Makes sure that there is capacity for one more entry. If there is no such capacity, reserves it: for two entries if there is no
+    /// entry yet, and for `n / 4 + 1` entries if there are `n` entries. No more is reserved, since most objects have few entries.
     fn grow(&mut self) -> Result<(), AllocError>
         ensures { self.new ≡ self.old }
     {
@@ -153,7 +153,7 @@ impl AttributeLists {
             .reserve_exact(if len == 0 { 2 } else { len / 4 + 1 })
     }
 
-    /// Replaces the list and the set flag of an attribute, in the entry of the attribute. Takes no memory.
+    /// Replaces the list and the set flag of an attribute that has an entry. Takes no memory.
     pub fn put(&mut self, feature: FeatureNo, list: NewValues, flag: bool)
         requires { HasPlace self.old feature.0 0 }
         ensures stored { stored_in self.new ≡ with_stored (stored_in self.old) feature.0 (record { list = list; flag = flag }) }
@@ -180,8 +180,8 @@ impl AttributeLists {
         }
     }
 
-    /// Makes an entry with the values `list` and the set flag `flag` for an attribute that has no entry; `at` is the index at which the
-    /// entry is inserted. Fails only if memory is refused, and then nothing that contracts see has changed.
+    /// Makes an entry for an attribute that has none, with the values `list` and the set flag `flag`; `at` is the index at which the entry
+    /// is inserted. Fails only if memory is refused, and then nothing that contracts see has changed.
     fn put_new(
         &mut self,
         feature: FeatureNo,
@@ -197,13 +197,13 @@ impl AttributeLists {
         let entry = Entry {
             feature,
             flag,
-            list: list.into_list(),
+            list: list_of(list),
         };
         insert_entry(&mut self.entries, at, entry)?;
         Ok(())
     }
 
-    /// Replaces the list and the set flag in the entry of an attribute, which is at the index `at`. Takes no memory.
+    /// Replaces the list and the set flag of an attribute, whose entry is at the index `at`. Takes no memory.
     fn put_at(&mut self, feature: FeatureNo, at: usize, list: NewValues, flag: bool)
         requires { IsAt self.old feature.0 at }
         ensures stored { stored_in self.new ≡ with_stored (stored_in self.old) feature.0 (record { list = list; flag = flag }) }
@@ -211,11 +211,12 @@ impl AttributeLists {
     {
         let alloc = *self.entries.allocator();
         let entry = &mut self.entries[at];
-        list.put_in(alloc, &mut entry.list);
+        put_in(list, alloc, &mut entry.list);
         entry.flag = flag;
     }
 
-    /// Makes an edit of the list that is stored under an attribute; the set flag stays. Takes no memory.
+    /// Makes an edit of the list that is stored under an attribute; the set flag stays as it is. If the attribute has no entry, the edit
+    /// can only be a removal or a move, and nothing changes. Takes no memory.
     pub fn change(&mut self, feature: FeatureNo, edit: ListEdit)
         requires { IsReadyFor self.old feature.0 edit }
         ensures stored { stored_in self.new ≡ change_stored (stored_in self.old) feature.0 (list_after_edit edit) }

@@ -14,22 +14,22 @@ pub(crate) fn objects_made(plan: &[ValueEdit]) -> usize
     plan.iter().filter(|e| e.is_new_object()).count()
 }
 
-/// How many URIs a plan adds; URIs that are there already count too.
+/// How many `NewUri` edits a plan has; an edit whose URI is there already counts too.
 pub(crate) fn uris_added(plan: &[ValueEdit]) -> usize
     ensures { result ≡ count_by is_new_uri plan.now }
 {
     plan.iter().filter(|e| e.is_new_uri()).count()
 }
 
-/// Whether a plan inserts a value into any list (`InsertValue`).
+/// Whether a plan inserts a value into at least one list (`InsertValue`).
 fn has_insert(plan: &[ValueEdit]) -> bool
     ensures { result ≡ list_any is_insert plan.now }
 {
     plan.iter().any(|e| e.is_insert())
 }
 
-/// The edits for which capacity has to be counted: the whole plan; or no edit, if no edit of the plan inserts a value into a list
-/// (`InsertValue`). In the second case counting takes no time.
+/// The edits for which capacity has to be counted: all edits of the plan if one of them inserts a value into a list (`InsertValue`), and
+/// otherwise no edits. With no edits, `places_needed` takes no time.
 pub(crate) fn counted(plan: &[ValueEdit]) -> &[ValueEdit]
     ensures { (o f : ℕ) → capacity_needed result.now o f ≡ capacity_needed plan.now o f }
 {
@@ -44,7 +44,7 @@ fn is_inserted_at(plan: &[ValueEdit], object: ObjectNo, feature: FeatureNo) -> b
 }
 
 /// How much capacity a plan needs in the list that an object has under an attribute. The result is 0 if the plan inserts no value into this
-/// list, since a list that is put brings its own memory. Fails if the count overflows.
+/// list (`InsertValue`), since a list that the plan puts (`PutList`) brings its own memory. Fails only if the count overflows.
 pub(crate) fn places_needed(
     plan: &[ValueEdit],
     object: ObjectNo,

@@ -13,13 +13,13 @@ pub(crate) enum ListEdit {
     Insert { index: u32, value: Value },
     /// Takes out the value at an index; if the index is past the end, nothing changes.
     Remove { index: u32 },
-    /// Takes out the value at `from` and inserts it at `to`, or at the end if `to` is past the end. If `from` is past the end, nothing
-    /// changes.
+    /// Takes out the value at `from`, and inserts it at the index `to` of the remaining list, or at the end if `to` is past the end. If the
+    /// list has no value at `from`, nothing changes.
     Move { to: u32, from: u32 },
 }
 
 impl ListEdit {
-    /// Makes the edit. Takes no memory.
+    /// Makes the edit of `list`, which has the capacity that the edit needs. Takes no memory.
     pub fn make(self, list: &mut ValueList)
         requires { list_edit_capacity self ≤ list.old.spare }
         ensures items { list.new.items ≡ list_after_edit self list.old.items }

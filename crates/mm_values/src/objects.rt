@@ -15,8 +15,9 @@ use std::alloc::{AllocError, Global};
 use std::marker::Model;
 use value_lists::ValueList;
 
-/// The objects of a repository, in two columns. At the number of an object, `classes` has its class, if the object is live, and `lists` has
-/// its attribute lists. So a look at a class reads no lists. `next` objects were made, and the entries from `next` on are reserved for new
+/// The objects of a repository, in two columns. At the index that is an object's number, the column `classes` has the object's class
+/// (`None` if the object is not live), and the column `lists` has the object's attribute lists. With two columns, a look-up of a class
+/// reads no attribute lists. `next` is how many objects were made; the entries of the columns from the index `next` on are reserved for new
 /// objects.
 #[derive(Drop)]
 pub(crate) struct Objects {
@@ -48,7 +49,7 @@ impl Objects {
         }
     }
 
-    /// How many objects were made.
+    /// How many objects were made, destroyed objects included.
     pub fn next(&self) -> usize
         ensures made { result ≡ length (objects_of self.now) }
         ensures next { result ≡ self.now.next }
@@ -93,7 +94,7 @@ impl Objects {
         Some(lists.flag(feature))
     }
 
-    /// Adds one entry, which is ready for a new object. If memory is refused, nothing has changed.
+    /// Adds to each column one entry, which is ready for a new object. Fails only if memory is refused, and then nothing has changed.
     fn add_slot(&mut self) -> Result<(), AllocError>
         ensures objects { objects_of self.new ≡ objects_of self.old }
         ensures next { self.new.next ≡ self.old.next }
@@ -107,14 +108,14 @@ impl Objects {
         Ok(())
     }
 
-    /// How many objects may be made with no memory taken.
+    /// How many objects can be made without taking memory.
     pub fn ready(&self) -> usize
         ensures { result + self.now.next ≡ length self.now.lists }
     {
         self.lists.len() - self.next
     }
 
-    /// Makes sure that there are entries ready for a number of new objects. Fails only if memory is refused.
+    /// Makes sure that the columns have entries that are ready for `additional` new objects. Fails only if memory is refused.
     pub fn reserve(&mut self, additional: usize) -> Result<(), AllocError>
         ensures objects { objects_of self.new ≡ objects_of self.old }
         ensures ok { OnOk result (self.new.next + additional ≤ length self.new.lists) }
@@ -125,10 +126,9 @@ impl Objects {
         Ok(())
     }
 
-    /// Makes an entry for an attribute of an object, if the attribute has none, and reserves capacity for more values of the list in the
-    /// entry. The object need not be made yet: its number may be one of those that are reserved. Nothing changes for a dead object, or for
-    /// a number that is neither given nor reserved. `is_asked` says whether the list is looked up by value. Fails only if memory is
-    /// refused.
+    /// Makes an entry for an attribute of an object, if the attribute has none, and reserves capacity for `additional` more values in the
+    /// list of that entry. The number `object` may be the number of a live object, or a number that is reserved for a new object. For any
+    /// other number nothing changes. `is_asked` says whether the list is looked up by value. Fails only if memory is refused.
     pub fn make_place(
         &mut self,
         object: ObjectNo,
@@ -151,8 +151,8 @@ impl Objects {
         self.lists[index].make_place(feature, additional, is_asked)
     }
 
-    /// If the list that an object has under an attribute is long, moves the list into pieces, so that edits of the list are fast. Fails
-    /// only if memory is refused.
+    /// If the list that an object has under an attribute is longer than one piece, moves the list into pieces, so that edits of the list
+    /// are fast. Fails only if memory is refused.
     pub fn make_pieces(&mut self, object: ObjectNo, feature: FeatureNo) -> Result<(), AllocError>
         ensures objects { objects_of self.new ≡ objects_of self.old }
         ensures next { self.new.next ≡ self.old.next }
@@ -165,7 +165,7 @@ impl Objects {
         self.lists[index].make_pieces(feature)
     }
 
-    /// Makes an object of a class, in an entry that is ready. Takes no memory.
+    /// Makes an object of a class. The entries for the object, at the index `next` of the columns, have to be ready. Takes no memory.
     pub fn add(&mut self, class: ClassNo)
         requires { self.old.next < length self.old.lists }
         ensures objects { objects_of self.new ≡ with_object (objects_of self.old) class }
@@ -176,7 +176,7 @@ impl Objects {
         self.next += 1;
     }
 
-    /// Destroys an object, and frees its values.
+    /// Destroys an object, and frees its values. If no live object has the number, nothing changes.
     pub fn remove(&mut self, object: ObjectNo)
         ensures objects { objects_of self.new ≡ without_object (objects_of self.old) object }
         ensures next { self.new.next ≡ self.old.next }
@@ -190,7 +190,8 @@ impl Objects {
         }
     }
 
-    /// Replaces the list and the set flag that a live object has under an attribute, in the entry of the attribute. Takes no memory.
+    /// Replaces the list and the set flag that an object has under an attribute. The attribute must have an entry. If no live object has
+    /// the number, nothing changes. Takes no memory.
     pub fn put(&mut self, object: ObjectNo, feature: FeatureNo, list: NewValues, flag: bool)
         requires { HasPlaceAt self.old object.0 feature.0 0 }
         ensures objects { objects_of self.new ≡ with_list (objects_of self.old) object feature (record { list = list; flag = flag }) }
@@ -213,8 +214,8 @@ impl Objects {
         Ok(())
     }
 
-    /// Replaces the list and the set flag that a live object has under an attribute. Fails only if memory is refused, and then nothing that
-    /// contracts see has changed.
+    /// Replaces the list and the set flag that an object has under an attribute. If no live object has the number, nothing changes. Fails
+    /// only if memory is refused, and then nothing that contracts see has changed.
     pub fn set(
         &mut self,
         object: ObjectNo,
@@ -232,7 +233,8 @@ impl Objects {
         Ok(())
     }
 
-    /// Makes an edit of the list that a live object has under an attribute; the set flag stays. Takes no memory.
+    /// Makes an edit of the list that an object has under an attribute; the set flag stays as it is. If no live object has the number,
+    /// nothing changes. Takes no memory.
     pub fn change(&mut self, object: ObjectNo, feature: FeatureNo, edit: ListEdit)
         requires { IsReadyAt self.old object.0 feature.0 edit }
         ensures objects { objects_of self.new ≡ with_changed (objects_of self.old) object feature (list_after_edit edit) }

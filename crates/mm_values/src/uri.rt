@@ -11,14 +11,14 @@ use indexmap::Equivalent;
 use mm_types::Text;
 use std::hash::{Hash, Hasher};
 
-/// A URI. A set finds it by its text, as a `&str`.
+/// A URI. A set of URIs finds a URI by its text, given as a `&str`.
 #[derive(Drop)]
 pub(crate) struct Uri {
     text: Text,
 }
 
 impl Uri {
-    /// The URI of a text, which is moved.
+    /// The URI with the text `text`, which is moved and not copied.
     pub fn new(text: Text) -> Self
         ensures { result.text ≡ text }
     {

@@ -10,10 +10,10 @@ use mm_types::{ResourceNo, Text};
 use std::alloc::{AllocError, Global};
 use std::marker::Model;
 
-/// How many resources can be numbered.
+/// How many resources can have a number: a `ResourceNo` has 32 bits.
 const NUMBERS: usize = 1 << 32;
 
-/// The URIs in the order of the numbers of their resources, each once.
+/// The URIs in the order of the numbers of their resources, each URI once.
 #[derive(Drop)]
 pub(crate) struct Uris {
     set: IndexSet<Uri>,
@@ -48,7 +48,7 @@ impl Uris {
         self.set.len()
     }
 
-    /// The URI of a resource.
+    /// The URI of a resource; `None` if no resource has the number.
     pub fn get(&self, resource: ResourceNo) -> Option<&str>
         ensures { option_copied result ≡ slice_get self.now.uris resource.0 }
     {
@@ -56,7 +56,7 @@ impl Uris {
         Some(uri.as_str())
     }
 
-    /// The resource that has a URI.
+    /// The resource that has a URI; `None` if no resource has the URI.
     pub fn find(&self, uri: &str) -> Option<ResourceNo>
         ensures { result ≡ option_map (λ i. record { 0 = i }) (position (bytes_eq uri.now) self.now.uris) }
     {
@@ -64,7 +64,8 @@ impl Uris {
         Some(ResourceNo(index as u32))
     }
 
-    /// Reserves capacity for more URIs. Fails only if memory is refused, or if there are not enough numbers for so many resources.
+    /// Reserves capacity for `additional` more URIs. Fails only if memory is refused, or if the URIs and the additional ones together are
+    /// more than 2^32.
     pub fn reserve(&mut self, additional: usize) -> Result<(), AllocError>
         ensures uris { self.new.uris ≡ self.old.uris }
         ensures ok { OnOk result (additional ≤ self.new.room) }
@@ -75,7 +76,7 @@ impl Uris {
         self.set.reserve(additional)
     }
 
-    /// Adds a URI, unless it is there already. Takes no memory.
+    /// Adds a URI at the end; if the URI is there already, nothing changes. Takes no memory.
     pub fn add(&mut self, uri: Text)
         requires { 0 < self.old.room }
         ensures uris { self.new.uris ≡ with_uri self.old.uris uri }

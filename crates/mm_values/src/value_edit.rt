@@ -2,12 +2,13 @@
 ghost use Rattle.std.specs.Prelude.{◌≡◌};
 
 use crate::new_values::NewValues;
-use mm_types::{ClassNo, FeatureNo, ObjectNo, Text, Value};
+use mm_types::{ClassNo, FeatureNo, Few, ObjectNo, Text, Value};
 
 /// One edit. An edit of an object that is not live changes nothing.
 #[derive(Debug, Drop)]
 pub enum ValueEdit {
-    /// Makes an object of a class (EMF: EFactory.create). The number of the object is the count of all objects that were made before it.
+    /// Makes an object of a class (EMF: EFactory.create). The number of the object is how many objects were made before, destroyed objects
+    /// included.
     NewObject(ClassNo),
     /// Destroys an object. Its number is never given again.
     DropObject(ObjectNo),
@@ -18,9 +19,9 @@ pub enum ValueEdit {
         list: NewValues,
         flag: bool,
     },
-    /// Inserts one value into an attribute's list, at an index; if the index is past the end, at the end. `is_unique` says that the list is
-    /// looked up by value again and again. In this case the hashes of a long list are counted, so that `Values::has` finds at once that a
-    /// value is not there.
+    /// Inserts one value into an attribute's list, at an index; if the index is past the end, at the end. `is_unique` says whether the list
+    /// is looked up by value again and again. If so, the hashes of a long list are counted: `Values::has` then finds at once that a value
+    /// is not there, unless a value with the same hash is there.
     InsertValue {
         object: ObjectNo,
         feature: FeatureNo,
@@ -34,8 +35,8 @@ pub enum ValueEdit {
         feature: FeatureNo,
         index: u32,
     },
-    /// Takes the value at `from` out of an attribute's list and inserts it at `to`, or at the end if `to` is past the end. If `from` is
-    /// past the end, nothing changes.
+    /// Takes the value at `from` out of an attribute's list, and inserts it at the index `to` of the remaining list, or at the end if `to`
+    /// is past the end. If the list has no value at `from`, nothing changes.
     MoveValue {
         object: ObjectNo,
         feature: FeatureNo,
@@ -45,6 +46,9 @@ pub enum ValueEdit {
     /// Makes a resource with a URI (EMF: ResourceSet.createResource); if a resource has this URI already, nothing changes.
     NewUri(Text),
 }
+
+/// Edits, which are made in their order.
+pub type ValuePlan = Few<ValueEdit>;
 
 impl ValueEdit {
     ghost use Rattle.std.specs.Prelude.{length};
@@ -62,7 +66,7 @@ impl ValueEdit {
         matches!(self, ValueEdit::NewUri(_))
     }
 
-    /// The list into which the edit inserts a value; `None` if it inserts none.
+    /// The list into which the edit inserts a value, named by its object and attribute; `None` if the edit is no `InsertValue`.
     pub(crate) fn inserted_in(&self) -> Option<(ObjectNo, FeatureNo)>
         ensures { result ≡ inserted_in self.now }
     {
@@ -76,7 +80,7 @@ impl ValueEdit {
         }
     }
 
-    /// Whether the edit inserts a value into a list.
+    /// Whether the edit inserts a value into a list (`InsertValue`).
     pub(crate) fn is_insert(&self) -> bool
         ensures { result ≡ is_insert self.now }
     {
@@ -107,7 +111,8 @@ impl ValueEdit {
         }
     }
 
-    /// How much capacity the edit takes in the list that the object `at` has under the attribute `under`.
+    /// How much capacity the edit takes in the list that the object `at` has under the attribute `under`: how many values the edit puts or
+    /// inserts there.
     pub(crate) fn places_taken(&self, at: ObjectNo, under: FeatureNo) -> usize
         ensures { result ≡ places_taken self.now at.0 under.0 }
     {

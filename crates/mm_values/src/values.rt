@@ -8,10 +8,9 @@ use crate::counting::{counted, objects_made, places_needed, uris_added};
 use crate::list_edit::ListEdit;
 use crate::new_values::NewValues;
 use crate::objects::Objects;
-use crate::plan::{EditList, ValuePlan};
 use crate::uris::Uris;
-use crate::value_edit::ValueEdit;
-use mm_types::{ClassNo, FeatureNo, ObjectNo, ResourceNo, Seq, Value};
+use crate::value_edit::{ValueEdit, ValuePlan};
+use mm_types::{ClassNo, FeatureNo, FewItems, ObjectNo, ResourceNo, Value};
 use std::alloc::{AllocError, Global};
 use std::slice;
 
@@ -40,7 +39,7 @@ impl Values {
         }
     }
 
-    /// The number that the next object gets. It is the count of all objects that were made, dropped objects included.
+    /// The number that the next object gets. The number is how many objects were made, destroyed objects included.
     pub fn next(&self) -> usize
         ensures { result ≡ length (values_of self.now).objects }
     {
@@ -71,7 +70,8 @@ impl Values {
         }
     }
 
-    /// The value that an object has under an attribute at an index; `None` past the end, and if no live object has the number.
+    /// The value that an object has under an attribute at an index; `None` if the index is past the end, or if no live object has the
+    /// number.
     pub fn at(&self, object: ObjectNo, feature: FeatureNo, index: usize) -> Option<&Value>
         ensures { option_copied result ≡ option_and_then (λ vs. slice_get vs index) (list_of (values_of self.now) object feature) }
     {
@@ -92,9 +92,9 @@ impl Values {
         }
     }
 
-    /// Whether an object has a value under an attribute; `None` if no live object has the number. If the values were inserted with
-    /// `is_unique`, and there are more than 64, it takes constant time to find that no value with the same hash is there, whatever the
-    /// list's length.
+    /// Whether an object has a value under an attribute; `None` if no live object has the number. The hashes of a list are counted if the
+    /// list has more than 64 values, and its values were inserted with `is_unique`. Then, if no value of the list has the hash of the given
+    /// value, `has` takes constant time, whatever the list's length.
     pub fn has(&self, object: ObjectNo, feature: FeatureNo, value: &Value) -> Option<bool>
         ensures { result ≡ option_map (list_any (same_value value.now)) (list_of (values_of self.now) object feature) }
     {
@@ -104,7 +104,8 @@ impl Values {
         }
     }
 
-    /// The flag that was put with the values of an attribute (EMF: eIsSet); `None` if no live object has the number.
+    /// The set flag of an attribute, which was put with the attribute's values (EMF: eIsSet); false if nothing was put; `None` if no live
+    /// object has the number.
     pub fn flag(&self, object: ObjectNo, feature: FeatureNo) -> Option<bool>
         ensures { result ≡ flag_of (values_of self.now) object feature }
     {
@@ -126,7 +127,8 @@ impl Values {
     }
 
     /// Takes all the memory that a plan needs. Fails only if memory is refused, or if the resources and the `NewUri` edits of the plan
-    /// together are more than 2^32. `apply` may be called only after `Ok`. Nothing that contracts see changes.
+    /// together are more than 2^32. `apply` may be called with the plan only if the result is `Ok`. Nothing that contracts see changes,
+    /// whatever the result.
     pub fn reserve_for(&mut self, plan: &ValuePlan) -> Result<(), AllocError>
         ensures unchanged { values_of self.new ≡ values_of self.old }
         ensures ok { OnOk result (HasRoom self.new plan.now) }
@@ -134,7 +136,7 @@ impl Values {
         self.reserve_edits(plan.as_slice())
     }
 
-    /// Takes all the memory that some edits need.
+    /// Takes all the memory that the given edits need. Fails as `reserve_for` does. Nothing that contracts see changes.
     fn reserve_edits(&mut self, edits: &[ValueEdit]) -> Result<(), AllocError>
         ensures unchanged { values_of self.new ≡ values_of self.old }
         ensures ok { OnOk result (HasRoom self.new edits.now) }
@@ -154,27 +156,27 @@ impl Values {
         requires { HasRoom self.old plan }
         ensures { values_of self.new ≡ values_after_edits (values_of self.old) plan }
     {
-        match plan.into_edits() {
-            EditList::One(edit) => self.apply_edit(edit),
-            EditList::Many(edits) => self.apply_all(edits),
+        match plan.into_items() {
+            FewItems::One(edit) => self.apply_edit(edit),
+            FewItems::Many(edits) => self.apply_all(edits),
         }
     }
 
     /// Takes the memory that a plan needs, and makes its edits. Fails only if memory is refused, or if the resources and the `NewUri` edits
-    /// of the plan together are more than 2^32, and then nothing that contracts see has changed. For a plan of one edit this is faster than
-    /// `reserve_for` and `apply`.
+    /// of the plan together are more than 2^32. If it fails, nothing that contracts see has changed. For a plan that was made from one
+    /// `NewObject` or `PutList` edit by `ValuePlan::one`, `try_apply` is faster than `reserve_for` and `apply`.
     pub fn try_apply(&mut self, plan: ValuePlan) -> Result<(), AllocError>
         ensures ok { OnOk result (values_of self.new ≡ values_after_edits (values_of self.old) plan) }
         ensures err { OnErr result (values_of self.new ≡ values_of self.old) }
     {
-        match plan.into_edits() {
-            EditList::One(edit) => self.try_edit(edit),
-            EditList::Many(edits) => self.try_all(edits),
+        match plan.into_items() {
+            FewItems::One(edit) => self.try_edit(edit),
+            FewItems::Many(edits) => self.try_all(edits),
         }
     }
 
     /// Takes the memory that an edit needs, and makes the edit. Fails only if memory is refused, or if the edit is `NewUri` and there are
-    /// 2^32 resources, and then nothing that contracts see has changed.
+    /// 2^32 resources already. If it fails, nothing that contracts see has changed.
     fn try_edit(&mut self, edit: ValueEdit) -> Result<(), AllocError>
         ensures ok { OnOk result (values_of self.new ≡ values_after_edit (values_of self.old) edit) }
         ensures err { OnErr result (values_of self.new ≡ values_of self.old) }
@@ -201,8 +203,8 @@ impl Values {
     }
 
     /// Replaces the values and the set flag that an object has under an attribute, as `ValueEdit::PutList` does. Fails only if memory is
-    /// refused, and then nothing that contracts see has changed. Most changes of values are one `PutList` edit, and making a plan for it
-    /// would take longer than the edit itself.
+    /// refused, and then nothing that contracts see has changed. Most changes of values are one `PutList` edit, and to make a plan for such
+    /// an edit would take longer than to make the edit.
     pub fn try_put(
         &mut self,
         object: ObjectNo,
@@ -216,7 +218,7 @@ impl Values {
         self.objects.set(object, feature, values, flag)
     }
 
-    /// Reserves capacity for an edit, as for a plan with only this edit, and then makes the edit.
+    /// Reserves capacity for an edit, as for a plan with only this edit, and then makes the edit. Fails as `try_edit` does.
     fn try_any(&mut self, edit: ValueEdit) -> Result<(), AllocError>
         ensures ok { OnOk result (values_of self.new ≡ values_after_edit (values_of self.old) edit) }
         ensures err { OnErr result (values_of self.new ≡ values_of self.old) }
@@ -226,27 +228,27 @@ impl Values {
         Ok(())
     }
 
-    /// Reserves capacity for all edits, and then makes them in their order.
-    fn try_all(&mut self, edits: Seq<ValueEdit>) -> Result<(), AllocError>
-        ensures ok { OnOk result (values_of self.new ≡ values_after_edits (values_of self.old) edits) }
+    /// Reserves capacity for all the given edits, and then makes them in their order. Fails as `try_apply` does.
+    fn try_all(&mut self, edits: Vec<ValueEdit>) -> Result<(), AllocError>
+        ensures ok { OnOk result (values_of self.new ≡ values_after_edits (values_of self.old) edits.items) }
         ensures err { OnErr result (values_of self.new ≡ values_of self.old) }
     {
-        self.reserve_edits(edits.as_slice())?;
+        self.reserve_edits(&edits)?;
         self.apply_all(edits);
         Ok(())
     }
 
     /// Makes edits, in their order.
-    fn apply_all(&mut self, edits: Seq<ValueEdit>)
-        requires { HasRoom self.old edits }
-        ensures { values_of self.new ≡ values_after_edits (values_of self.old) edits }
+    fn apply_all(&mut self, edits: Vec<ValueEdit>)
+        requires { HasRoom self.old edits.items }
+        ensures { values_of self.new ≡ values_after_edits (values_of self.old) edits.items }
     {
-        for edit in edits.into_vec() {
+        for edit in edits {
             self.apply_edit(edit);
         }
     }
 
-    /// Makes one edit, and keeps the capacity for the edits that follow.
+    /// Makes one edit, and keeps the capacity that was reserved for the edits after it.
     fn apply_edit(&mut self, edit: ValueEdit)
         requires { HasRoom self.old (edit ∷ []) }
         ensures edited { values_of self.new ≡ values_after_edit (values_of self.old) edit }
@@ -289,7 +291,7 @@ impl Values {
         }
     }
 
-    /// Prepares the lists that the edits put or change, each as `make_place_for` does.
+    /// Prepares the lists that the edits put or change, each list as `make_place_for` does.
     fn make_places(&mut self, edits: &[ValueEdit]) -> Result<(), AllocError>
         ensures unchanged { values_of self.new ≡ values_of self.old }
         ensures next { self.new.objects.next ≡ self.old.objects.next }
@@ -310,8 +312,8 @@ impl Values {
     }
 
     /// Prepares the list that an edit of a plan puts or changes. For a put or an insert, makes an entry for the list, if the attribute has
-    /// none, and reserves the capacity that the plan needs in the list (`places_needed`). For a removal or a move in a long list, moves the
-    /// list into pieces, so that the edit is fast.
+    /// none, and reserves the capacity that the plan needs in the list (`places_needed`). For a removal or a move in a list that is longer
+    /// than one piece, moves the list into pieces, so that the edit is fast.
     fn make_place_for(&mut self, edit: &ValueEdit, plan: &[ValueEdit]) -> Result<(), AllocError>
         ensures unchanged { values_of self.new ≡ values_of self.old }
         ensures next { self.new.objects.next ≡ self.old.objects.next }

@@ -27,20 +27,20 @@ pub(crate) struct Asked {
     pub(crate) save: Vec<ResourceFile>,
     /// The output options.
     pub(crate) dress: Dress,
-    /// Whether a refused or bad line gives an exit status of its own.
+    /// Whether the exit status is 4 if the run came to its end, and a line was refused or bad (`--strict`).
     pub(crate) strict: bool,
-    /// Whether the program is live: before it waits for further lines, it answers all lines that came in.
+    /// Whether the run is live (`--live`): before the program waits for further lines, it answers all lines that came in.
     pub(crate) live: bool,
-    /// The file that keeps the lines that change the model, if there is one.
+    /// The file of the journal, which keeps the lines that change the model; `None` if there is no journal.
     pub(crate) journal: Option<String>,
-    /// Whether the program says what to fix, after its messages.
+    /// Whether the program says what to fix, after its messages (`--explain`).
     pub(crate) explain: bool,
-    /// Whether the program says which file can't be read or written, and why. This is so with `--explain`, or if standard error is a
-    /// terminal.
+    /// Whether the program says which file can't be opened, read or written, with the reason if the program knows it. True with
+    /// `--explain`, and also if standard error is a terminal.
     pub(crate) names_files: bool,
 }
 
-/// The words that the program was called with.
+/// The words that the program was called with. Fails with `NotUtf8` if a word is not UTF-8, and otherwise only with `Memory`.
 pub(crate) fn words_of(rt: &HostRuntime) -> Result<Vec<String>, Stop> {
     let args = match env::args(rt) {
         Ok(args) => args,
@@ -56,7 +56,7 @@ pub(crate) fn words_of(rt: &HostRuntime) -> Result<Vec<String>, Stop> {
     Ok(words)
 }
 
-/// A copy of a path.
+/// A copy of a path; `None` if no path is given.
 fn path_of(rt: &HostRuntime, path: Option<&str>) -> Result<Option<String>, Stop> {
     match path {
         Some(path) => Ok(Some(String::from_str(rt.alloc(), path)?)),
@@ -64,8 +64,8 @@ fn path_of(rt: &HostRuntime, path: Option<&str>) -> Result<Option<String>, Stop>
     }
 }
 
-/// The resource and the file that a value of an option names. The last `=` separates the two, since a URI may have `=` too. A value without
-/// `=`, or with no file after it, is refused.
+/// The resource and the file that a value of the option `option` names. The last `=` of the value separates the URI from the file, since a
+/// URI may have `=` too. The value is refused if it has no `=`, or if nothing follows the last `=`.
 fn resource_file(
     rt: &HostRuntime,
     option: &'static str,
@@ -81,7 +81,7 @@ fn resource_file(
     }
 }
 
-/// The resources and the files that the values of an option name.
+/// The resources and the files that the values of the option `option` name, in the order of the values.
 fn resource_files(
     rt: &HostRuntime,
     option: &'static str,
@@ -94,7 +94,7 @@ fn resource_files(
     Ok(files)
 }
 
-/// The options, copied out of the words.
+/// What the program has to do, as the given options say. The texts are copied out of the words.
 fn copied(rt: &HostRuntime, options: &Options<'_>) -> Result<Asked, Stop> {
     let script = path_of(rt, options.script)?;
     let load = resource_files(rt, "--load", options.load.as_slice())?;
@@ -114,7 +114,7 @@ fn copied(rt: &HostRuntime, options: &Options<'_>) -> Result<Asked, Stop> {
     })
 }
 
-/// The options that the words of a command line give, copied out of the words.
+/// What the program has to do, as the words of a command line say. The texts are copied out of the words.
 fn asked_of(rt: &HostRuntime, words: &[&str]) -> Result<Asked, Stop> {
     let options = match options_of(rt.alloc(), words) {
         Ok(options) => options,
@@ -126,7 +126,7 @@ fn asked_of(rt: &HostRuntime, words: &[&str]) -> Result<Asked, Stop> {
     }
 }
 
-/// The options of the arguments.
+/// What the program has to do, as the arguments `args` say.
 pub(crate) fn arguments_of(rt: &HostRuntime, args: &[String]) -> Result<Asked, Stop> {
     let mut words = Vec::new(rt.alloc());
     for word in args {

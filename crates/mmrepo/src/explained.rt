@@ -10,8 +10,8 @@ use mm_types::limits::INPUT_BYTES;
 use script_streams::RunFault;
 use std::io;
 
-/// Why the program stops for a fault of a file. If `explain` is set, the result has a text with the path and the reason that the system
-/// gives. If memory is refused for this text, the fault is `Memory`.
+/// Why the program stops if a call of the system fails for the file at `path`. If `explain` is set, the result has a text with the path and
+/// the reason that the system gives. If memory is refused for this text, the fault is `Memory`.
 fn failed(rt: &HostRuntime, explain: bool, path: &str, fault: RunFault, error: io::Error) -> Stop {
     if !explain {
         return Stop::Run(fault);
@@ -22,7 +22,7 @@ fn failed(rt: &HostRuntime, explain: bool, path: &str, fault: RunFault, error: i
     }
 }
 
-/// Why a file is not opened.
+/// Why the program stops if a file is not opened.
 pub(crate) fn explained_open(
     rt: &HostRuntime,
     explain: bool,
@@ -32,7 +32,7 @@ pub(crate) fn explained_open(
     failed(rt, explain, path, RunFault::Read, error)
 }
 
-/// Why a file is not written.
+/// Why the program stops if a file is not written.
 pub(crate) fn explained_write(
     rt: &HostRuntime,
     explain: bool,
@@ -45,7 +45,7 @@ pub(crate) fn explained_write(
     failed(rt, explain, path, RunFault::Write, error)
 }
 
-/// Why a file is not read.
+/// Why the program stops if an open file is not read to its end.
 pub(crate) fn explained_read(rt: &HostRuntime, explain: bool, path: &str, fault: RunFault) -> Stop {
     if !explain {
         return Stop::Run(fault);
@@ -62,7 +62,7 @@ pub(crate) fn explained_read(rt: &HostRuntime, explain: bool, path: &str, fault:
     }
 }
 
-/// Why the run of a script stops, if the script is read from a file.
+/// Why the program stops if the run of a script stops with the fault `fault`, and the script is read from the file at `path`.
 pub(crate) fn explained_run(rt: &HostRuntime, explain: bool, path: &str, fault: RunFault) -> Stop {
     match fault {
         RunFault::Read | RunFault::TooLong => explained_read(rt, explain, path, fault),
@@ -70,7 +70,7 @@ pub(crate) fn explained_run(rt: &HostRuntime, explain: bool, path: &str, fault: 
     }
 }
 
-/// Why a metamodel is refused.
+/// Why the program stops for a metamodel that is refused.
 pub(crate) fn explained_fault(
     rt: &HostRuntime,
     explain: bool,
@@ -111,7 +111,7 @@ fn refused(rt: &HostRuntime, asked: &Asked, path: &str, refusal: JournalRefusal)
     }
 }
 
-/// Why the file of a journal is not opened.
+/// Why the program stops if the file of a journal is not opened.
 pub(crate) fn explained_lock(
     rt: &HostRuntime,
     asked: &Asked,
@@ -127,7 +127,7 @@ pub(crate) fn explained_lock(
     }
 }
 
-/// Why a journal is not opened, or why its lines can't be run again.
+/// Why the program stops if a journal is not opened, or if its lines can't be run again.
 pub(crate) fn explained_journal(
     rt: &HostRuntime,
     asked: &Asked,
@@ -146,8 +146,9 @@ pub(crate) fn explained_journal(
     refused(rt, asked, path, refusal)
 }
 
-/// Why a run that keeps its changes in a journal stops. If `explain` is set and `stop` is `Stop::Run` with the fault `Journal`, the result
-/// has a text with the path. If memory is refused for this text, the fault is `Memory`.
+/// Why the program stops if a run that keeps its changes in a journal stops for the reason `stop`. If `explain` is set and `stop` is
+/// `Stop::Run` with the fault `Journal`, the result has a text with the path; otherwise the result is `stop`. If memory is refused for this
+/// text, the fault is `Memory`.
 pub(crate) fn explained_disk(rt: &HostRuntime, explain: bool, path: &str, stop: Stop) -> Stop {
     match stop {
         Stop::Run(RunFault::Journal) if explain => {

@@ -25,7 +25,7 @@ fn room_for(rt: &HostRuntime, file: &File) -> Result<Vec<u8>, AllocError> {
     Vec::with_capacity(rt.alloc(), len.saturating_add(1))
 }
 
-/// All bytes of a file, of any length.
+/// All bytes of a file, which may have any length.
 fn bytes_of(rt: &HostRuntime, asked: &Asked, path: &str) -> Result<Vec<u8>, Stop> {
     let mut file = match fs::open(rt, path) {
         Ok(file) => file,
@@ -41,8 +41,8 @@ fn bytes_of(rt: &HostRuntime, asked: &Asked, path: &str) -> Result<Vec<u8>, Stop
     }
 }
 
-/// Why the resource of a file is not loaded or not saved. With `--explain` the result has the explanation that a script line of the form
-/// `form` would get.
+/// Why the program stops if the resource of a file is not loaded or not saved. With `--explain` the result has the explanation that a
+/// script line of the form `form` would get.
 pub(crate) fn refused_form<L: LinkStore, A: Adapter>(
     rt: &HostRuntime,
     asked: &Asked,
@@ -63,7 +63,8 @@ pub(crate) fn refused_form<L: LinkStore, A: Adapter>(
     Ok(Stop::Resource(file, refused, text))
 }
 
-/// Why a document that is not UTF-8 is refused.
+/// Why the program stops for a document that is not UTF-8. With `--explain` the result has a text that names the first byte that is not
+/// UTF-8.
 fn not_utf8(
     rt: &HostRuntime,
     asked: &Asked,
@@ -89,7 +90,7 @@ fn is_made<L: LinkStore, A: Adapter>(repository: &Repository<L, A>, resource: Re
         .is_ok()
 }
 
-/// Notes a resource that was made, and how many objects were loaded into it.
+/// Notes in the watch, if there is one, that a resource was made, and how many objects were loaded into the resource.
 fn note(watch: Watching<'_>, uri: &str, objects: u64) {
     if let Some(watch) = watch
         && let Ok(mut watch) = watch.try_borrow_mut()
@@ -98,7 +99,8 @@ fn note(watch: Watching<'_>, uri: &str, objects: u64) {
     }
 }
 
-/// Why a file is not loaded: its resource was not made, or its document is refused.
+/// Why the program stops if a file is not loaded: its resource was not made, or its document is refused. If the resource was made, the
+/// watch notes the resource before the refusal is explained.
 fn not_loaded<L: LinkStore, A: Adapter>(
     rt: &HostRuntime,
     asked: &Asked,
@@ -126,7 +128,7 @@ fn not_loaded<L: LinkStore, A: Adapter>(
     }
 }
 
-/// Makes a resource, which gets the number `resource`, and loads the document of a file into it.
+/// Makes a resource, and loads the document of a file into the resource. `resource` has to be the number that the next new resource gets.
 fn load_file<L: LinkStore, A: Adapter>(
     rt: &HostRuntime,
     asked: &Asked,
@@ -156,7 +158,8 @@ fn load_file<L: LinkStore, A: Adapter>(
     }
 }
 
-/// Loads the files of the options, in their order, into a repository that has no resource.
+/// Loads the files of the `--load` options, in the order of the options. The repository must have no resource, so that the new resources
+/// get the numbers from 0 on.
 pub(crate) fn load_files<L: LinkStore, A: Adapter>(
     rt: &HostRuntime,
     asked: &Asked,

@@ -19,7 +19,7 @@ use script_program::{Journaled, KeptFault, run_kept};
 use script_streams::RunFault;
 use std::io::BufReader;
 
-/// Why a run with the journal at a path stops.
+/// Why the program stops if a run with a journal stops; the journal is the file at `path`.
 fn explained_kept(rt: &HostRuntime, asked: &Asked, path: &str, fault: KeptFault) -> Stop {
     match fault {
         KeptFault::Unopened(fault) => explained_journal(rt, asked, path, fault),
@@ -27,7 +27,9 @@ fn explained_kept(rt: &HostRuntime, asked: &Asked, path: &str, fault: KeptFault)
     }
 }
 
-/// Runs the lines of a file again, answers the lines of standard input, and keeps the lines that change the model.
+/// Runs the lines of a journal again, answers the lines of standard input, and adds the lines that change the model to the journal. `disk`
+/// is the file of the journal, `bytes` is its content, and `head` is the first line that the journal must have. Returns the outcome of the
+/// run; fails only if memory is refused for the buffers.
 fn answer<D: Disk + Drop, A: Adapter>(
     rt: &HostRuntime,
     head: &[u8],
@@ -48,7 +50,7 @@ fn answer<D: Disk + Drop, A: Adapter>(
     Ok(run.outcome)
 }
 
-/// The file of a journal, and the digest of the metamodel's document. The first line of the journal must have this digest.
+/// The path of a journal, and the digest of the metamodel's document, which the first line of the journal must have.
 #[derive(Clone, Copy)]
 struct JournalFile<'a> {
     path: &'a str,
@@ -88,8 +90,8 @@ fn run_session<A: Adapter>(
     Ok(session.is_faulty())
 }
 
-/// Runs the lines of a journal, and then the lines of standard input, over an empty repository, and saves files. Returns whether a line was
-/// refused or bad.
+/// Runs the lines of a journal again, answers the lines that come on standard input, and saves files. Begins with an empty repository of
+/// the metamodel, with the adapters `boxes`. Returns whether a line was refused or bad.
 pub(crate) fn run_journaled<A: Adapter>(
     rt: &HostRuntime,
     asked: &Asked,

@@ -20,14 +20,14 @@ use crate::stop::{Stop, report};
 use std::process::ExitCode;
 
 /// Reads the metamodel, loads files, runs the script, saves files, and returns the exit status. A live run answers the lines of standard
-/// input in place of a script; if it has a journal, it runs the lines of the journal first.
+/// input instead of running a script. A run with a journal runs the lines of the journal first.
 fn run(rt: &HostRuntime, asked: &Asked) -> Result<u8, Stop> {
     let mut document = read_meta(rt, asked)?;
     let is_faulty = run_asked(rt, asked, &mut document)?;
     Ok(status_of(is_faulty, asked.strict))
 }
 
-/// Reads the words of the command line, and runs the program with the options that the words give. Returns the status.
+/// Reads the words of the command line, and runs the program with the options that the words give. Returns the exit status.
 fn start(rt: &HostRuntime) -> Result<u8, Stop> {
     let words = words_of(rt)?;
     let asked = arguments_of(rt, words.as_slice())?;

@@ -20,7 +20,7 @@ pub(crate) fn read_meta(rt: &HostRuntime, asked: &Asked) -> Result<Vec<u8>, Stop
     }
 }
 
-/// Checks the metamodel of a document that was read, and returns the metamodel.
+/// Checks the document of a metamodel, and returns the metamodel.
 pub(crate) fn load(rt: &HostRuntime, asked: &Asked, bytes: &[u8]) -> Result<Box<Meta>, Stop> {
     match check_document(rt.alloc(), bytes) {
         Ok(meta) => Ok(Box::new(rt.alloc(), meta)?),

@@ -23,8 +23,9 @@ impl fmt::Display for Misuse {
     }
 }
 
-/// The first rule on options that is broken. A live run reads its lines from standard input, and writes its answers without output options.
-/// A journal needs a live run. A journal keeps lines, but not the documents that `--load` loads.
+/// The first rule on options that the given options break; `None` if they break no rule. The rules: a live run can have neither `--script`
+/// nor output options, since it reads its lines from standard input and writes plain answers. A journal needs a live run. A run with a
+/// journal can't load files, since a journal keeps only lines, and not the documents that `--load` loads.
 pub(crate) fn misuse_of(options: &Options<'_>) -> Option<Misuse> {
     let is_live = options.live;
     let is_kept = options.journal.is_some();

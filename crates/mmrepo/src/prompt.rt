@@ -1,11 +1,11 @@
-//! Standard input, with a prompt if a person types.
+//! Standard input, with a prompt if a person types the lines.
 use std::io;
 use std::io::{IsTerminal, Read, StdinLock};
 
 /// The prompt on standard error while the program waits for a line.
 const PROMPT: &str = "> ";
 
-/// Standard input. On a terminal a prompt is written to standard error before each read.
+/// Standard input. If it is a terminal, a prompt is written to standard error before each read.
 #[derive(Drop)]
 pub(crate) struct Prompted<'a> {
     rt: &'a HostRuntime,

@@ -29,11 +29,11 @@ const LIVE_BOXES: u32 = 1000;
 /// How many notifications A8 can count in a run, the notification of REMOVING_ADAPTER included.
 const LEFT: u64 = 2;
 
-/// The exit status with `--strict` after a script with a refused or bad line.
+/// The exit status with `--strict` if the run came to its end, and a line was refused or bad.
 const FAULTY: u8 = 4;
 
-/// Standard output through a buffer. The buffer writes to the `Watched` stream, and not the other way round, so that a write into the
-/// buffer costs no more than the copy.
+/// Standard output through a buffer. The buffer is around the `Watched` stream, and not inside it, so that a write into the buffer costs no
+/// more than the copy of the bytes.
 pub(crate) fn writer_of<'w>(
     rt: &'w HostRuntime,
     watch: Watching<'w>,
@@ -44,7 +44,8 @@ pub(crate) fn writer_of<'w>(
     }
 }
 
-/// Flushes the writer, whatever the outcome of a run. Returns the outcome, or `Write` if the run came to its end and the flush failed.
+/// Flushes the writer, whatever the outcome of a run. Returns the outcome, or the fault `Write` if the run came to its end and the flush
+/// failed.
 fn ended<W: Write>(
     writer: &mut W,
     outcome: Result<Summary, RunFault>,
@@ -57,7 +58,7 @@ fn ended<W: Write>(
     Ok(summary)
 }
 
-/// Runs a script over a repository; the script is read from the reader.
+/// Runs the script that `reader` gives, over a repository.
 fn run_reader<R: Read + Drop, A: Adapter>(
     rt: &HostRuntime,
     mut reader: R,
@@ -79,7 +80,7 @@ fn run_reader<R: Read + Drop, A: Adapter>(
     Ok(ended(&mut writer, outcome)?)
 }
 
-/// Answers the lines that come on standard input, each before the next is read.
+/// Answers the lines that come on standard input, each line before the next line is read.
 fn run_dialogue<A: Adapter>(
     rt: &HostRuntime,
     repository: &mut Repository<SlotStore, A>,
@@ -96,12 +97,13 @@ fn run_dialogue<A: Adapter>(
     Ok(ended(&mut writer, outcome)?)
 }
 
-/// Whether a line of a run was refused, or bad.
+/// Whether at least one line of a run was refused or bad.
 fn is_faulty(summary: Summary) -> bool {
     summary.refused > 0 || summary.bad > 0
 }
 
-/// Runs the script of a file, or the script on standard input. If the run is live, answers the lines of standard input one by one.
+/// Runs the script of a file, or the script on standard input if no file is given. If the run is live, answers the lines of standard input
+/// one by one instead.
 fn run_script<A: Adapter>(
     rt: &HostRuntime,
     asked: &Asked,
@@ -126,8 +128,8 @@ fn run_script<A: Adapter>(
     }
 }
 
-/// Loads files, runs the script and saves files. With the option `stop`, nothing is saved if a line was refused or bad. Returns whether a
-/// line was refused or bad.
+/// Loads files, runs the script and saves files. With `--stop`, nothing is saved if a line was refused or bad. Returns whether a line was
+/// refused or bad.
 fn run_between<A: Adapter>(
     rt: &HostRuntime,
     asked: &Asked,
@@ -166,7 +168,8 @@ fn last_box(asked: &Asked) -> u32 {
     if asked.live { LIVE_BOXES } else { BOXES }
 }
 
-/// The digest of the metamodel's document, which a journal has in its first line. Without a journal it is the digest of no bytes.
+/// The digest of the metamodel's document, which a journal has in its first line. Without a journal the digest is not used, and the result
+/// is the digest of no bytes.
 fn digest_for(asked: &Asked, document: &[u8]) -> [u8; 32] {
     match asked.journal {
         Some(_) => Sha256::digest(document),
@@ -193,9 +196,9 @@ fn run_over_metamodel<A: Adapter>(
     }
 }
 
-/// Runs the script with its adapters: A1 to A4 keep every notification, A5 keeps the last 2 and A6 the last 100, A7 and A8 only count, and
-/// A8 counts no more than two notifications. A live run has further adapters, which only count, so that their notifications take no memory
-/// in a long run. Returns whether a line was refused or bad.
+/// Makes the adapters of a run, and runs the script with them: A1 to A4 keep every notification, A5 keeps the last 2 and A6 the last 100,
+/// A7 and A8 only count, and A8 counts no more than two notifications. A live run has further adapters, A9 to A1000. They only count, so
+/// that their notifications take no memory in a long run. Returns whether a line was refused or bad.
 fn run_with_boxes(
     rt: &HostRuntime,
     asked: &Asked,
@@ -216,7 +219,8 @@ fn run_with_boxes(
 }
 
 /// Runs the script as the options say, over the metamodel of a document, and returns whether a line was refused or bad. The lines are
-/// watched if they are to be commented on, or if resources are to be saved: the watch notes the URIs of the resources.
+/// watched if they are to be commented on. They are also watched if resources are to be saved, since the watch notes the URIs of the
+/// resources.
 pub(crate) fn run_asked(
     rt: &HostRuntime,
     asked: &Asked,

@@ -15,7 +15,8 @@ use std::fs::{File, OpenOptions};
 use std::io::Write;
 use std::{fs, io, process};
 
-/// The resource whose document is to be saved in a file.
+/// The resource that is to be saved into a file, found by its URI. Refused with `NoResource`, `BadUri` or `Memory`, as `not_found`
+/// explains.
 fn resource_for(watch: Watching<'_>, to: &ResourceFile) -> Result<ResourceNo, Refused> {
     if let Some(watch) = watch
         && let Ok(watch) = watch.try_borrow()
@@ -26,7 +27,8 @@ fn resource_for(watch: Watching<'_>, to: &ResourceFile) -> Result<ResourceNo, Re
 }
 
 /// Why the program stops if the look-up of a resource that is to be saved into a file was refused. `refused` is `NoResource` if no resource
-/// has the URI, `BadUri` if the URI is bad, and `Memory` if memory was refused.
+/// has the URI, and `BadUri` if the URI is bad. It is `Memory` if memory was refused for the look-up, or earlier in the run when the watch
+/// noted a URI or made a comment.
 fn not_found<L: LinkStore, A: Adapter>(
     rt: &HostRuntime,
     asked: &Asked,
@@ -46,7 +48,7 @@ fn not_found<L: LinkStore, A: Adapter>(
     refused_form(rt, asked, repository, watch, path, &form, refused)
 }
 
-/// The document that is to be saved in a file.
+/// The document of the resource that is to be saved into a file.
 fn document_for<L: LinkStore, A: Adapter>(
     rt: &HostRuntime,
     asked: &Asked,
@@ -68,14 +70,15 @@ fn document_for<L: LinkStore, A: Adapter>(
     }
 }
 
-/// Writes a document and a newline into a file, and puts the file on the disk.
+/// Writes a document and a newline into a file, and syncs the file to the disk.
 fn write_document(mut file: File, document: &str) -> io::Result<()> {
     file.write_all(document.as_bytes())?;
     file.write_all(b"\n")?;
     file.sync_all()
 }
 
-/// Replaces a file by a document in one step: a reader of the file finds the old content, or all of the document.
+/// Replaces a file by a document in one step: a reader of the file finds the old content, or the whole document. If there is no file at the
+/// path, makes one. If the replacement fails, the file at the path is as it was.
 fn replace(rt: &HostRuntime, path: &str, document: &str) -> io::Result<()> {
     let id = process::id(rt.process());
     let temporary = format!(in rt.alloc(); "{path}.{id}.tmp")?;
@@ -93,7 +96,7 @@ fn replace(rt: &HostRuntime, path: &str, document: &str) -> io::Result<()> {
     done
 }
 
-/// The documents that are to be saved in the files, in the order of the options.
+/// The documents that are to be saved into files, in the order of the `--save` options.
 fn documents_for<L: LinkStore, A: Adapter>(
     rt: &HostRuntime,
     asked: &Asked,
@@ -107,8 +110,8 @@ fn documents_for<L: LinkStore, A: Adapter>(
     Ok(documents)
 }
 
-/// Saves the resources that the options name. If one of the resources is not found, or its save is refused, no file is written. Otherwise
-/// the files are written in the order of the options, up to the first file that can't be written.
+/// Saves the resources that the `--save` options name. If one of the resources is not found, or its save is refused, no file is written.
+/// Otherwise the files are written in the order of the options, up to the first file that can't be written.
 pub(crate) fn save_files<L: LinkStore, A: Adapter>(
     rt: &HostRuntime,
     asked: &Asked,

@@ -14,9 +14,9 @@ pub(crate) enum JournalRefusal {
     InUse,
     /// The file is no journal.
     NoJournal,
-    /// The journal was begun with a different metamodel.
+    /// The journal was begun with a metamodel document that differs from the present one in at least one byte.
     OtherMetamodel,
-    /// The line of this number was run again, and was refused, or is bad, or is no line that a journal keeps. The head is line 1.
+    /// The line of this number was refused or bad when it was run again, or it is not of a kind that a journal keeps. The head is line 1.
     Line(u64),
 }
 
@@ -44,13 +44,13 @@ pub(crate) enum Stop {
     Metamodel(MetaFault),
     /// The journal is refused.
     Journal(JournalRefusal),
-    /// A stream or the journal failed, an input is too long, or memory was refused.
+    /// A stream, a file or the journal failed, an input is too long, or memory was refused.
     Run(RunFault),
     /// The metamodel is refused, and a text says what to fix.
     Mend(MetaFault, String),
     /// The journal is refused, and a text says why.
     ExplainedJournal(JournalRefusal, String),
-    /// A file is not read or written, and a text says why.
+    /// A file or the journal is not opened, read or written, and a text names the file, with the reason if the program knows it.
     Explained(RunFault, String),
     /// The resource of a file is not loaded or not saved: the path of the file, the refusal, and a text that says why or is empty.
     Resource(String, Refused, String),
@@ -125,14 +125,14 @@ fn report_resource(rt: &HostRuntime, file: &str, refused: Refused) -> u8 {
     5
 }
 
-/// Writes the explanation of a status to standard error, and returns the status.
+/// Writes the text of an explanation to standard error, and returns the exit status `status`.
 fn explain(rt: &HostRuntime, status: u8, text: &str) -> u8 {
     let _ = eprint!(rt; "{text}");
     status
 }
 
-/// Says on standard error why the program stops, and returns the exit status of the program. The texts of `--help` and `--version` are
-/// written to standard output.
+/// Says on standard error why the program stops, and returns the exit status of the program. Only the texts of `--help` and `--version` are
+/// written to standard output; their exit status is 0.
 pub(crate) fn report(rt: &HostRuntime, stop: Stop) -> u8 {
     match stop {
         Stop::Arguments(error) => report_arguments(rt, error),

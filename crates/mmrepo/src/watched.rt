@@ -11,7 +11,7 @@ use std::io::Write;
 /// The watch over a run; `None` if no line of the run is commented on and no resource is saved after the run.
 pub(crate) type Watching<'w> = Option<&'w RefCell<Commentary>>;
 
-/// Calls a watch with the lines that were run.
+/// A listener that passes each line that was run, with its output, to the watch; without a watch it does nothing.
 #[derive(Clone, Copy, Drop)]
 pub(crate) struct Ear<'w> {
     watch: Watching<'w>,
@@ -50,7 +50,7 @@ impl Listener for Ear<'_> {
     }
 }
 
-/// A stream for answers. When it is flushed, it writes the comments of the watch to standard error.
+/// A stream for answers. After each flush that succeeds, it writes the new comments of the watch to standard error.
 #[derive(Drop)]
 pub(crate) struct Watched<'w, S> {
     rt: &'w HostRuntime,
@@ -64,7 +64,7 @@ impl<'w, S> Watched<'w, S> {
     }
 }
 
-/// Writes the comments of a watch to standard error.
+/// Takes the new comments of a watch, and writes them to standard error.
 fn say(rt: &HostRuntime, watch: &RefCell<Commentary>) {
     if let Ok(mut watch) = watch.try_borrow_mut() {
         let text = watch.take();

@@ -36,7 +36,8 @@ abbrev pub Opens : List ℕ → ℕ → Option Held → Type 0
 Opens bytes status new =
     ((INPUT_BYTES < length bytes) × (status ≡ TOO_LONG) × (new ≡ None)) ⊎ ((length bytes ≤ INPUT_BYTES) × OpensDocument bytes status new)
 
--- a line was run: the text that the line printed is now the answer of the session; if memory was refused to the run, the handle is closed
+-- a line was run: the text that the line printed is now the answer of the session; or memory was refused to the run itself, and the handle
+-- is closed
 abbrev pub AnswersLine : Held → List ℕ → ℕ → Option Held → Type 0
 AnswersLine h line status None = status ≡ MEMORY
 AnswersLine h line status (Some t) = (turn : Turn) × (status ≡ line_status turn) × RunsLine (running_session h) (form line) (printed_line (answer t) turn) (running_session t)
@@ -47,8 +48,8 @@ Answers None line status new = (status ≡ CLOSED) × (new ≡ None)
 Answers (Some h) line status new =
     ((INPUT_BYTES < length line) × (status ≡ TOO_LONG) × (new ≡ Some h)) ⊎ ((length line ≤ INPUT_BYTES) × AnswersLine h line status new)
 
--- a read was made, and `asked` gives what it prints in a session: this text is now the answer of the session; if memory was refused for the
--- text, the handle is closed
+-- a read was made. `asked` gives what the read prints in a session. Either this text is now the answer of the session; or memory was
+-- refused for the text, and the handle is closed
 abbrev pub ReadsSession : Held → (Session → Printed) → ℕ → Option Held → Type 0
 ReadsSession h asked status None = status ≡ MEMORY
 ReadsSession h asked status (Some t) = (turn : Turn) × (status ≡ line_status turn) × Reads (running_session h) asked (printed_line (answer t) turn) (running_session t)
@@ -59,7 +60,7 @@ abbrev pub ReadsList : Option Held → List ℕ → (Session → Printed) → �
 ReadsList None name asked status new = (status ≡ CLOSED) × (new ≡ None)
 ReadsList (Some h) name asked status new = (¬ IsUtf8 name × (status ≡ BAD) × (new ≡ Some h)) ⊎ (IsUtf8 name × ReadsSession h asked status new)
 
--- the resource with a number; `node_of` is this resource for `true`, and the object with the number for `false`
+-- the resource with a given number; `node_of` is this resource for `true`, and the object with the number for `false`
 abbrev pub resource_of : ℕ → ResourceNo
 resource_of number = record { 0 = number }
 
@@ -75,8 +76,8 @@ asked_len n name s = list_len_printed s.state n name
 abbrev pub asked_value : Node → List ℕ → ℕ → Session → Printed
 asked_value n name i s = list_value_printed s.state n name i
 
--- the command `Load` was run, and was done or refused: the text that the command printed is now the answer of the session; if memory was
--- refused to the call itself, the handle is closed
+-- a document was to be loaded. Either the command `Load` was done or refused, and the text that it printed is now the answer of the
+-- session; or memory was refused to the call itself, and the handle is closed
 abbrev pub LoadsDocument : Held → ResourceNo → List ℕ → ℕ → Option Held → Type 0
 LoadsDocument h k text status None = status ≡ MEMORY
 LoadsDocument h k text status (Some t) = (turn : Turn) × (status ≡ line_status turn) × RunsCommand (running_session h) (Load k text) (printed_line (answer t) turn) (running_session t)

@@ -1,4 +1,4 @@
--- The statuses that the calls from C return for a line, and for a metamodel that is refused.
+-- The statuses that the calls from C return for a line, a read or a load, and for a metamodel that is refused.
 use Rattle.std.specs.Prelude.{ℕ, unwrap_or}
 use Rattle.mm_types.specs.Faults.{fault_number}
 use Rattle.mm_types.specs.declared.meta_fault.MetaFault.{MetaFault}
@@ -6,7 +6,7 @@ use Rattle.script_answers.specs.declared.turn.Turn.{Turn}
 use Rattle.script_answers.specs.declared.turn.Turn.TheVariants as turned
 use Rattle.mmrepo_c.specs.declared.status.TheConstants.{OK, BLANK, BAD, REFUSED, LOST, MEMORY}
 
--- the status of a line, by how it is counted
+-- the status of a line, a read or a load, by how it is counted
 abbrev pub line_status : Turn → ℕ
 line_status turned.Blank = BLANK
 line_status turned.Bad = BAD

@@ -1,4 +1,4 @@
-//! Parts that several calls share.
+//! Functions that several calls use.
 ghost use Rattle.std.specs.Prelude.{◌≡◌, MatchResult, Some};
 ghost use Rattle.mmrepo_c.specs.Calls as c;
 ghost use Rattle.mmrepo_c.specs.Statuses as s;
@@ -10,7 +10,7 @@ use mm_types::{Node, ObjectNo, ResourceNo};
 use script_answers::Turn;
 use std::alloc::AllocError;
 
-/// The resource with a number if `is_resource` is true, else the object with that number.
+/// The resource with the number `number` if `is_resource` is true, else the object with this number.
 pub(crate) fn node_of(is_resource: bool, number: u32) -> Node
     ensures { result ≡ c.node_of is_resource number }
 {
@@ -22,7 +22,7 @@ pub(crate) fn node_of(is_resource: bool, number: u32) -> Node
 }
 
 /// Puts a session back into its handle, from which a call took the session. Returns the status of the call. If memory was refused to the
-/// call, the session is dropped instead, and the handle stays closed.
+/// call itself (`outcome` is an error), the session is dropped instead, and the handle stays as the call left it: closed.
 pub(crate) fn put_back(
     handle: &mut Handle,
     session: Box<Session>,

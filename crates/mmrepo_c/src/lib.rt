@@ -1,8 +1,9 @@
 //! mmrepo for C: a static library, whose functions `include/mmrepo.h` declares. A session over a metamodel answers the lines of a script,
 //! one line in each call. docs/C.md has an example.
 //!
-//! A call takes the `Box` of a session out of its handle, and puts the `Box` back unless the call closes the session. So only
-//! `SessionPointer` and `Loose` work with raw pointers. All other code is safe, and is proved from the contracts of these two types.
+//! A call that uses a session takes the `Box` of the session out of the handle, and puts the `Box` back unless the call closes the session.
+//! So only `SessionPointer` and `Loose` work with raw pointers. All other code is safe, and is proved from the contracts of these two
+//! types.
 #![tactic(auto)]
 
 ghost use Rattle.std.specs.Prelude.{◌≡◌, None};
@@ -29,11 +30,11 @@ pub use session::Session;
 use std::alloc::Global;
 use std::str;
 
-/// Opens a session: an empty repository over the metamodel of a document. A session that the handle had before is closed. The adapters of
-/// the new session, A1 to A1000, count their notifications and keep none of them.
+/// Opens a session: an empty repository over the metamodel of a document. A session that the handle had before is closed first, also if the
+/// document is then refused. The adapters of the new session, A1 to A1000, count their notifications and keep none of them.
 ///
-/// Returns `OK`; a number from 1 to 12 for the first fault of the document; `TOO_LONG` if the document has more than `INPUT_BYTES` bytes;
-/// `MEMORY` if memory is refused. The handle is closed if the status is not `OK`.
+/// Returns `OK`; or a number from 1 to 12 for the first fault of the document; or `TOO_LONG` if the document has more than `INPUT_BYTES`
+/// bytes; or `MEMORY` if memory is refused. The handle is closed if the status is not `OK`.
 #[unsafe(no_mangle)]
 pub extern "C" fn mmrepo_open(alloc: Global, handle: &mut Handle, document: &[u8]) -> u32
     ensures { c.Opens document.now result handle.new.pointer.held }
@@ -51,13 +52,14 @@ pub extern "C" fn mmrepo_open(alloc: Global, handle: &mut Handle, document: &[u8
     }
 }
 
-/// Runs a line of a script; `line` has no newline at its end. From then on the text of the session is the output of the line.
+/// Runs a line of a script. The caller passes the line without the newline that ends it in a script. The text of the session becomes the
+/// output of the line.
 ///
 /// Returns how the line is counted: `OK` if its command was done, `BLANK` if the line is empty or has only spaces, `BAD` if the line is no
 /// command, `REFUSED` if its command was refused, and `LOST` if the repository was refused memory for the command. After `REFUSED` or
 /// `LOST` the repository is as it was. Returns `CLOSED` if the handle is closed, however long the line is. Returns `TOO_LONG` if the line
-/// has more than `INPUT_BYTES` bytes: the session is as it was. Returns `MEMORY` if memory is refused to the run itself: the session is
-/// closed.
+/// has more than `INPUT_BYTES` bytes: the session is as it was. Returns `MEMORY` if memory is refused to the call itself, and not to the
+/// command: the session is closed.
 #[unsafe(no_mangle)]
 pub extern "C" fn mmrepo_line(alloc: Global, handle: &mut Handle, line: &[u8]) -> u32
     ensures { c.Answers handle.old.pointer.held line.now result handle.new.pointer.held }
@@ -78,12 +80,12 @@ pub extern "C" fn mmrepo_line(alloc: Global, handle: &mut Handle, line: &[u8]) -
 }
 
 /// Reads how many values a list has. `number` is the number of a resource if `is_resource` is true, else the number of an object. `feature`
-/// is the name of the feature whose values are the list; a resource has only the list `contents`. From then on the text of the session is
-/// the count.
+/// is the name of the feature whose values are the list; a resource has only the list `contents`. If the status is `OK`, the text of the
+/// session becomes the count.
 ///
 /// Returns `OK` if the node has the list. Returns `REFUSED` if there is no node with this number, or if the node has no list with this
-/// name; then the text of the session is the refusal. Returns `CLOSED` if the handle is closed. Returns `BAD` if the name is not UTF-8: the
-/// session is as it was. Returns `MEMORY` if memory is refused for the text: the session is closed.
+/// name; after `REFUSED` the text of the session is the refusal. Returns `CLOSED` if the handle is closed. Returns `BAD` if the name is not
+/// UTF-8: the session is as it was. Returns `MEMORY` if memory is refused for the text: the session is closed.
 #[unsafe(no_mangle)]
 pub extern "C" fn mmrepo_list_length(
     alloc: Global,
@@ -106,7 +108,7 @@ pub extern "C" fn mmrepo_list_length(
 }
 
 /// Reads the value at an index of a list; the first index is 0. `is_resource`, `number` and `feature` name the list, as in
-/// `mmrepo_list_length`. From then on the text of the session is the value.
+/// `mmrepo_list_length`. If the status is `OK`, the text of the session becomes the value.
 ///
 /// Returns `OK`; or `REFUSED` if there is no such list, or if the index is past the last value. After `REFUSED` the text of the session is
 /// the refusal, which is `INDEX` if the index is past the last value. Returns `CLOSED` if the handle is closed. Returns `BAD` if the name
@@ -133,12 +135,12 @@ pub extern "C" fn mmrepo_list_value(
     put_back(handle, session, outcome)
 }
 
-/// Loads a document into a resource, as the line `load` does. But the document may have any length, and may have newlines. From then on the
-/// text of the session is the output of the load.
+/// Loads a document into the resource with the number `resource`, as the line `load` does. Unlike a line of a script, the document may have
+/// any length, and may have newlines. The text of the session becomes the output of the load.
 ///
 /// Returns `OK` if the document was loaded, `REFUSED` if the load was refused, and `LOST` if the repository was refused memory. After
 /// `REFUSED` or `LOST` the repository is as it was. Returns `CLOSED` if the handle is closed. Returns `MEMORY` if memory is refused to the
-/// call itself: the session is closed.
+/// call itself, and not to the repository: the session is closed.
 #[unsafe(no_mangle)]
 pub extern "C" fn mmrepo_load(
     alloc: Global,
@@ -156,8 +158,8 @@ pub extern "C" fn mmrepo_load(
 }
 
 /// Copies the text of the session, or as much of the text as the buffer can hold. The text is what the last line, read or load printed.
-/// Returns how many bytes the whole text has: 0 if no line, read or load was run yet, if the last line was blank, and if the handle is
-/// closed.
+/// Returns how many bytes the whole text has: 0 if no line, read or load was run yet, if the last of them was a blank line, and if the
+/// handle is closed.
 #[unsafe(no_mangle)]
 pub extern "C" fn mmrepo_text(alloc: Global, handle: &mut Handle, out: &mut [u8]) -> usize
     ensures { c.Copies handle.old.pointer.held out.old result out.new handle.new.pointer.held }

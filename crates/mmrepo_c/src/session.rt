@@ -15,7 +15,7 @@ use script_answers::Turn;
 use script_program::Interpreter;
 use std::alloc::{AllocError, Global};
 
-/// How many adapters a session has: A1 to A1000.
+/// How many adapters a session has; lines name them A1 to A1000.
 const BOXES: usize = 1000;
 
 /// A repository over a metamodel, the adapters that lines can attach, and the output of the last line, read or load.
@@ -46,7 +46,7 @@ impl Session {
         })
     }
 
-    /// Runs a line, and returns how it is counted. Fails only if memory is refused to the run itself.
+    /// Runs a line, and returns how it is counted. Fails only if memory is refused to the run itself, and not to the command of the line.
     pub(crate) fn answer(&mut self, line: &[u8]) -> Result<Turn, AllocError>
         ensures { IfOk result (λ t. RunsLine (running_session self.old) (forms.form line.now) (printed_line (answer self.new) t) (running_session self.new)) }
     {
@@ -72,7 +72,8 @@ impl Session {
         self.interpreter.list_value(node, feature, index)
     }
 
-    /// Loads a document, and returns how the load is counted. Fails only if memory is refused to the call itself.
+    /// Loads a document, and returns how the load is counted. Fails only if memory is refused to the call itself, and not to the
+    /// repository.
     pub(crate) fn load(&mut self, resource: ResourceNo, document: &[u8]) -> Result<Turn, AllocError>
         ensures { IfOk result (λ t. RunsCommand (running_session self.old) (Load resource document.now) (printed_line (answer self.new) t) (running_session self.new)) }
     {

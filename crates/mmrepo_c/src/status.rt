@@ -17,7 +17,7 @@ pub const BAD: u32 = 21;
 /// The command or the read was refused.
 pub const REFUSED: u32 = 22;
 
-/// The command was refused memory.
+/// The repository was refused memory for the command. The session goes on.
 pub const LOST: u32 = 23;
 
 /// The session is closed.
@@ -26,10 +26,10 @@ pub const CLOSED: u32 = 30;
 /// The metamodel or the line has more than `INPUT_BYTES` bytes.
 pub const TOO_LONG: u32 = 31;
 
-/// Memory was refused to the call itself, and the session is closed.
+/// Memory was refused to the call itself, and not to a command that it ran. The session is now closed.
 pub const MEMORY: u32 = 32;
 
-/// The status of a line, by how it is counted.
+/// The status of a line, a read or a load, by how it is counted.
 pub(crate) fn line_status(turn: Turn) -> u32
     ensures { result ≡ s.line_status turn }
 {

@@ -25,15 +25,16 @@ use Rattle.repository.specs.declared.command.Command.TheVariants.{Detach}
 use Rattle.snapshots.specs.Replayed.{replayed_notices, state_at}
 use Rattle.snapshots.specs.Snapshots.{node_state, snapshot_of}
 
--- Take the values and the set flag that an end has before a command, and replay the notifications of the command on them. The result is the
--- values and the set flag that the end has after the command, if the command is not refused and the end's node exists before and after it.
+-- If the notifications of a command are replayed on the values and the set flag that an end has before the command, the result is the
+-- values and the set flag that the end has after the command. This is so in a legal state, if the command is not refused, and the end's
+-- node exists both before and after the command.
 abbrev pub ChainReplays : State → Command View → Type 0
 ChainReplays s c =
     IsLegal s → refusal_of s c ≡ None
     → (d : End) → IsTrue (is_there (reads s) d.node) → IsTrue (is_there (reads (step s c).after) d.node)
     → ends_after_notices (has_flag s.model.metamodel) (held_at (reads s)) (chain (reads s) c) d ≡ held_at (reads (step s c).after) d
 
--- a snapshot of the node `target` has the state of each node that is `target` or below `target`
+-- in a legal model, a snapshot of the node `target`, which exists, has the state of each node n that is `target` or below `target`
 abbrev pub HasEachNode : Model → Node → Node → Type 0
 HasEachNode s target n =
     models.IsLegal s → IsTrue (is_there (reading s) target) → is_within (reading s) target n ≡ true → state_at n (snapshot_of (reading s) target) ≡ Some (node_state (reading s) n)
@@ -65,34 +66,35 @@ IsAtOrBelow target n s = is_within (reads s) target n ≡ true
 abbrev pub AreEnough : State → List (Command View) → Node → Node → List Notice → Type 0
 AreEnough s cs target n ns = state_at n (replayed_notices (snapshot_of (reads s) target) ns) ≡ state_at n (snapshot_of (reads (run s cs).after) target)
 
--- `Holds` is true if three conditions apply: the state before a run is legal; an adapter is attached in this state; and in each state of
--- the run, the adapter has the node `target` as a deep target, and the node n is that target or below it. Other targets of the adapter may
--- come and go.
+-- `Holds` is true if these conditions apply: the state s before a run is legal; in s the adapter a is attached, under the number `number`;
+-- and in each state of the run, the adapter with this number has the node `target` as a deep target, and the node n is `target` or below
+-- `target`. Other targets of the adapter may come and go.
 abbrev pub OfWatched : State → List (Command View) → AdapterNo → Node → Listed → Node → Type 0 → Type 0
 OfWatched s cs number target a n Holds =
     IsLegal s → adapter number s.adapters ≡ Some a → AllAlong (HasDeepTarget number target) s cs → AllAlong (IsAtOrBelow target n) s cs → Holds
 
--- the adapter's notifications in the replies are enough, however many notifications the adapter keeps
+-- under the conditions of `OfWatched`, the adapter's notifications in the replies of the run are enough (`AreEnough`), however many
+-- notifications the adapter keeps
 abbrev pub ToldIsEnough : State → List (Command View) → AdapterNo → Node → Listed → Node → Type 0
 ToldIsEnough s cs number target a n = OfWatched s cs number target a n (AreEnough s cs target n (told_to number (told_by_all (run s cs).outcomes)))
 
--- v is an earlier view of an adapter, and w a later one: if the adapter keeps all notifications, the notifications in w that come after
--- those of v are enough
+-- v is an adapter's view before a run, and w a later view of this adapter: if the adapter keeps all notifications, the notifications in w
+-- that come after those of v are enough for the run (`AreEnough`)
 abbrev pub KeepsEnough : State → List (Command View) → Node → Node → View → View → Type 0
 KeepsEnough s cs target n v w = v.room ≡ None → AreEnough s cs target n (drop (length v.kept) w.kept)
 
--- if an adapter keeps all notifications and is still attached after a run, the notifications that it has kept since the beginning of the
--- run are enough
+-- under the conditions of `OfWatched`: if the adapter keeps all notifications and is still attached after the run, the notifications that
+-- it has kept since the beginning of the run are enough
 abbrev pub NoticesAreEnough : State → List (Command View) → AdapterNo → Node → Listed → Listed → Node → Type 0
 NoticesAreEnough s cs number target a b n = OfWatched s cs number target a n (adapter number (run s cs).after.adapters ≡ Some b → KeepsEnough s cs target n a.view b.view)
 
--- if an adapter keeps all notifications and is detached after a run, the notifications that it has kept since the beginning of the run are
--- enough
+-- under the conditions of `OfWatched`: if the adapter keeps all notifications and is detached after the run, the notifications that it has
+-- kept since the beginning of the run are enough
 abbrev pub DetachedKeepsEnough : State → List (Command View) → AdapterNo → Node → Listed → View → Node → Type 0
 DetachedKeepsEnough s cs number target a w n =
     OfWatched s cs number target a n (handed_out number (handed_out_by (step (run s cs).after (Detach number)).outcome) ≡ Some w → KeepsEnough s cs target n a.view w)
 
--- if an adapter keeps all notifications, and the repository is closed after a run, the notifications that the adapter has kept since the
--- beginning of the run are enough
+-- under the conditions of `OfWatched`: if the adapter keeps all notifications, and the repository is closed after the run, the
+-- notifications that the adapter has kept since the beginning of the run are enough
 abbrev pub ClosedKeepsEnough : State → List (Command View) → AdapterNo → Node → Listed → View → Node → Type 0
 ClosedKeepsEnough s cs number target a w n = OfWatched s cs number target a n (handed_out number (adapters_at_close (run s cs).after) ≡ Some w → KeepsEnough s cs target n a.view w)

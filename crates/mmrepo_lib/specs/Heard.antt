@@ -1,4 +1,4 @@
--- What an adapter was notified of, as the replies of commands say it.
+-- What an adapter was notified of, according to the replies of commands.
 use Rattle.std.specs.Prelude.{◌≡◌, List, [], ◌∷◌, ◌++◌, Option, Some, None, Ok, Err, option_map, if◌then◌else◌}
 use Rattle.std.specs.List.{find}
 use Rattle.std.specs.Option.{option_map_or}
@@ -16,8 +16,8 @@ abbrev pub told_to : AdapterNo → List (AdapterNo × Notice) → List Notice
 told_to number [] = []
 told_to number (t ∷ ts) = if same_no number t.0 then t.1 ∷ told_to number ts else told_to number ts
 
--- the notifications that an outcome lists, each with the number of the adapter that was notified; and `told_by_all`, the notifications that
--- all outcomes of a list have, in order
+-- the notifications that an outcome lists, each with the number of the adapter that was notified; none if the command was refused.
+-- `told_by_all`: the notifications of all outcomes of a list, in order
 abbrev pub told_by : Outcome → List (AdapterNo × Notice)
 told_by (Ok r) = r.told
 told_by (Err f) = []
@@ -42,8 +42,8 @@ view_among number rs vs = option_map_or (λ (a : Listed). Some a.view) (adapter 
 abbrev pub view_after : AdapterNo → Stepped → Option View
 view_after number t = view_among number t.after.adapters (handed_out_by t.outcome)
 
--- If an adapter is attached before a command, the command notifies it of exactly the notifications that the reply has for this adapter, in
--- order, whether the adapter is then still attached or is given back.
+-- In a legal state: if an adapter is attached before a command, the command notifies it of exactly the notifications that the reply has for
+-- this adapter, in order, whether the adapter is still attached after the command or is given back.
 abbrev pub HearsItsReply : State → Command View → AdapterNo → Listed → Type 0
 HearsItsReply s c number a =
     IsLegal s → adapter number s.adapters ≡ Some a → view_after number (step s c) ≡ Some (hear_all a.view (told_to number (told_by (step s c).outcome)))

@@ -31,14 +31,14 @@ use Rattle.repository.specs.declared.command.Command.TheVariants as command
 use Rattle.repository.specs.declared.reply.Answer.{Answer}
 use Rattle.repository.specs.declared.reply.Answer.TheVariants as answer
 
--- the commands that do a list of tasks: `texts` has the text of each resource, and `made` lists the resources that were made before, in
--- order
+-- the commands that do a list of tasks: r is the saved state, `texts` has the text of each resource of r, and `made` lists the resources of
+-- r that were already made anew, in order
 abbrev pub commands : Reading → (ResourceNo → List ℕ) → List ResourceNo → List Task → List (Command View)
 commands r texts made [] = []
 commands r texts made (Make k ∷ ts) = command.CreateResource (uri_of r k) ∷ commands r texts (made ++ k ∷ []) ts
 commands r texts made (Fill k ∷ ts) = command.Load (number_of made k) (texts k) ∷ commands r texts made ts
 
--- each resource was saved as its text in `texts`: the text is read as the document of the resource, and is UTF-8
+-- each resource was saved as its text in `texts`: the text is read as the document of the resource (`IsReadAs`), and is UTF-8
 pub record AreTexts (r : Reading) (texts : ResourceNo → List ℕ) : Type 0 where
   pub reads : (k : ResourceNo) → has_resource r k ≡ true → IsReadAs r k (texts k)
   pub utf8 : (k : ResourceNo) → has_resource r k ≡ true → is_utf8 (texts k) ≡ true
@@ -70,8 +70,8 @@ pub record AreLoads (s : State) (texts : ResourceNo → List ℕ) (ts : List Tas
   pub between : Between (reads s) (reads (reloaded_state s texts ts))
 
 -- P is true of a state s, texts and tasks, if these conditions apply: s is legal and has normalised URIs and no proxies; each resource of s
--- can be saved, with no text of a reference that is too long; the resources were saved as the texts; and the tasks make each resource once,
--- and fill each resource once after it is made
+-- can be saved, and no text of a reference is too long; the resources were saved as the texts; and the tasks make each resource once, and
+-- fill each resource once after it is made
 abbrev pub OfSaved : ((s : State) → (ResourceNo → List ℕ) → List Task → Type 0) → State → Type 0
 OfSaved P s =
     IsLegal s → HasSteadyTexts s.model → IsSaved (reads s) → (texts : ResourceNo → List ℕ) → AreTexts (reads s) texts → (ts : List Task) → IsOrder (reads s) [] [] ts → P s texts ts
@@ -82,8 +82,8 @@ LoadsGiveBetween = OfSaved AreLoads
 
 ---------------------------------------------------------------- resolves
 
--- the resolve of a proxy in the state t is not refused; the state after it is still a partly resolved copy, and has one proxy fewer than t,
--- or two fewer if the reference has an opposite
+-- the resolve of a proxy in the state t is not refused; the state after the resolve is a partly resolved copy of the saved state r, and has
+-- one proxy fewer than t, or two fewer if the reference of the proxy has an opposite
 pub record IsResolvedBetween (r : Reading) (t : State) (o : ObjectNo) (f : FeatureNo) (i : ℕ) : Type 0 where
   pub done : IsDone (step t (resolve o f i)).outcome
   pub between : Between r (reads (step t (resolve o f i)).after)
@@ -106,7 +106,7 @@ pub record IsAllResolved (r : Reading) (t : State) : Type 0 where
   pub alike : Alike r (reads (step t command.ResolveAll).after)
 
 -- P is true of the states s and t, if both are legal, s has no proxies, and t is a partly resolved copy of s. t has no adapters; it has the
--- metamodel of s, the objects, values and URIs of w, and the links b.
+-- metamodel of s, the links b, and what w has: the objects with their attribute values and set flags, and the URIs.
 abbrev pub OfBetween : (Reading → State → Type 0) → State → ValuesState → Links → Type 0
 OfBetween P s w b =
     let t = state_of_model (model_of s.model.metamodel w b) in
@@ -127,8 +127,8 @@ pub record IsHadAgain (s : State) (texts : ResourceNo → List ℕ) (ts : List T
   pub alike : Alike (reads s) (reads (run (reloaded_state s texts ts) rs).after)
 
 -- The commands of the tasks are not refused. The resolve of all proxies at once then gives a state that is isomorphic to the saved one.
--- There is a list of single resolves that leaves no proxy. If a list of single resolves leaves no proxy, it gives a state that is
--- isomorphic to the saved one.
+-- There is a list of single resolves that leaves no proxy. If a list of single resolves leaves no proxy, none of these resolves is refused,
+-- and the state after them is isomorphic to the saved one.
 pub record IsReloaded (s : State) (texts : ResourceNo → List ℕ) (ts : List Task) : Type 0 where
   pub loads : AllDone (run (empty_state s.model.metamodel) (commands (reads s) texts [] ts)).outcomes
   pub all : IsAllResolved (reads s) (reloaded_state s texts ts)

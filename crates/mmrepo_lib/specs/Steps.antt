@@ -1,5 +1,5 @@
--- What the contracts and the laws of a repository cite: its state, the step of a command, runs of several commands, replies with views in
--- place of adapters, what an adapter was notified of, replays of notifications, and what reloading brings back.
+-- Most of what the contracts and the laws of a repository cite: its state, the step of a command, runs of several commands, replies with
+-- views in place of adapters, what an adapter was notified of, replays of notifications, and what reloading brings back.
 pub use Rattle.doc_writer.specs.Saved.{IsReadAs}
 pub use Rattle.models.specs.Legal as models
 pub use Rattle.models.specs.Model.{Model, model_of, reading}

@@ -1,5 +1,6 @@
-//! Laws of the definitions, each the contract of a function that does nothing. Most laws are about legal states. Each state of a
-//! `Repository` is legal, and its URIs are normalised (`lemma_is_legal`, `has_steady_texts`).
+//! Laws on commands, on notifications, and on the reloading of saved resources. Each law is the contract of a function that does nothing.
+//! Most laws are about legal states. Each state of a `Repository` is legal, and its URIs are normalised (`lemma_is_legal`,
+//! `has_steady_texts`).
 ghost use Rattle.std.specs.Prelude.{◌≡◌, List, Err};
 ghost use Rattle.mm_types.specs.declared.numbers.AdapterNo.{AdapterNo};
 ghost use Rattle.mm_types.specs.declared.numbers.Node.{Node};
@@ -35,9 +36,9 @@ pub fn a_refusal_changes_nothing()
     ensures given_back { (s t : State) (c : Command View) (f : Failure View) → Executed s c (Err f) t → f.given_back ≡ brought_adapter c }
 {}
 
-/// Take the values and the set flag that an end has before a command that is not refused, and replay the notifications of the command on
-/// them, one after another. The result is the values and the set flag that the end has after the command. That is so for each end of a node
-/// that exists before and after the command.
+/// Take a command that is not refused in a legal state, and an end whose node exists both before and after the command. If the
+/// notifications of the command (its chain) are replayed, one after another, on the values and the set flag that the end has before the
+/// command, the result is the values and the set flag that the end has after the command. The chain does not depend on the adapters.
 pub fn the_notices_of_a_command_replay_it()
     ensures { (s : State) (c : Command View) → ChainReplays s c }
 {}
@@ -48,17 +49,18 @@ pub fn a_snapshot_has_each_node()
 {}
 
 /// If an adapter is attached before a command, the command notifies it of exactly the notifications that the reply lists for this adapter,
-/// in order. This holds if the adapter is still attached after the command, and also if the reply gives it back.
+/// in order. This holds if the adapter is still attached after the command, and also if the reply gives the adapter back. A refused command
+/// notifies no adapter.
 pub fn an_adapter_hears_what_the_reply_tells_it()
     ensures { (s : State) (c : Command View) (number : AdapterNo) (a : Listed) → HearsItsReply s c number a }
 {}
 
 /// Notifications are enough. Let the node `target` be a deep target of an adapter during a whole run of commands, and let a snapshot of
 /// `target` be taken at the beginning of the run. Let the node `n` be `target` or below `target` during the whole run. If the adapter's
-/// notifications of the run are replayed on the snapshot, the state of `n` in the snapshot becomes the state of `n` in a snapshot at the
-/// end of the run. The notifications can be taken from the replies, however many notifications the adapter keeps. If the adapter keeps all
-/// notifications, those that it has kept since the beginning of the run can be taken instead: while it is attached, and when `detach` or
-/// `close` gives it back.
+/// notifications of the run are replayed on the snapshot, the state of `n` in the snapshot becomes the state of `n` in a snapshot of
+/// `target` at the end of the run. The notifications can be taken from the replies, however many notifications the adapter keeps. If the
+/// adapter keeps all notifications, those that it has kept since the beginning of the run can be taken instead: from the attached adapter
+/// after the run, or from the adapter that `detach` or `close` then gives back.
 pub fn notices_are_enough()
     ensures kept { (s : State) (cs : List (Command View)) (number : AdapterNo) (target : Node) (a b : Listed) (n : Node) → NoticesAreEnough s cs number target a b n }
     ensures told { (s : State) (cs : List (Command View)) (number : AdapterNo) (target : Node) (a : Listed) (n : Node) → ToldIsEnough s cs number target a n }
@@ -66,18 +68,18 @@ pub fn notices_are_enough()
     ensures closed { (s : State) (cs : List (Command View)) (number : AdapterNo) (target : Node) (a : Listed) (w : View) (n : Node) → ClosedKeepsEnough s cs number target a w n }
 {}
 
-/// The texts that were saved of a state without proxies can be loaded into a new repository over the same metamodel, if the URIs of the
-/// state are normalised, and the text of no reference is longer than 65,535 bytes. The resources of the state are created and their texts
-/// loaded, in any order in which no resource is loaded before it is created. The texts are the results of `Repository::save`. These
-/// commands can be refused only for lack of memory. The new state is legal, and a partly resolved copy of the saved state: it has the same
-/// objects at the same addresses, and some references may still be proxies.
+/// Saved texts can be loaded in any order. Suppose that all resources of a state without proxies were saved by `Repository::save`, that the
+/// URIs of the state are normalised, and that the text of no reference is longer than 65,535 bytes. In a new repository over the same
+/// metamodel each of the resources is created once and its text is loaded once, in any order in which no resource is loaded before it is
+/// created. These commands can be refused only for lack of memory. The state after them is legal, and a partly resolved copy of the saved
+/// state: it has the same objects at the same addresses, and some references may still be proxies.
 pub fn loads_in_any_order_give_what_stands_between()
     ensures { (s : State) → LoadsGiveBetween s }
 {}
 
 /// Take a saved state without proxies, and a partly resolved copy of it that has no adapters. The resolve of a proxy of the copy can be
-/// refused only for lack of memory. After the resolve, the copy is still partly resolved, and has one proxy fewer, or two fewer if the
-/// reference of the proxy has an opposite.
+/// refused only for lack of memory. After the resolve, the copy is still a partly resolved copy of the saved state, and has one proxy
+/// fewer, or two fewer if the reference of the proxy has an opposite.
 pub fn resolving_stays_between()
     ensures { (s : State) (w : ValuesState) (b : Links) → ResolvesBetween s w b }
 {}
@@ -94,18 +96,18 @@ pub fn without_proxies_what_stands_between_is_alike()
     ensures { (s t : Reading) → HasNoProxy s → HasNoProxy t → Between s t → Alike s t }
 {}
 
-/// What was saved comes back. Suppose that all resources of a state without proxies were saved, that the URIs of the state are normalised,
-/// and that the text of no reference is longer than 65,535 bytes. In a new repository over the same metamodel the resources are created and
-/// loaded, in any order in which no resource is loaded before it is created. Then the proxies are resolved, all at once or one after
-/// another in any order until no proxy is left. These commands can be refused only for lack of memory. The new state is isomorphic to the
-/// saved state: the two states have the same URIs; two resources with the same URI have the same roots; and the two states have the same
-/// addresses. The two objects at an address have the same class, values and set flags. Values that are objects are compared by their
-/// addresses.
+/// What was saved comes back. Suppose that all resources of a state without proxies were saved by `Repository::save`, that the URIs of the
+/// state are normalised, and that the text of no reference is longer than 65,535 bytes. In a new repository over the same metamodel each of
+/// the resources is created once and its text is loaded once, in any order in which no resource is loaded before it is created. Then the
+/// proxies are resolved, all at once or one after another in any order until no proxy is left. These commands can be refused only for lack
+/// of memory. The state after them is isomorphic to the saved state: the two states have the same URIs and the same addresses. Two
+/// resources with the same URI, one in each state, have the same roots. Two objects at the same address, one in each state, have the same
+/// class, values and set flags. Roots, and values that are objects, are compared by their addresses.
 pub fn what_was_saved_is_had_again_in_any_order()
     ensures { (s : State) → ReloadsInAnyOrder s }
 {}
 
-/// Adapters do not change the effect of a change: a change that succeeds would succeed without them too, and leave the same model. A
+/// Adapters do not change the effect of a change: a change that succeeds would also succeed without adapters, and leave the same model. A
 /// command that asks for no change of the model, such as a read or `Attach`, leaves the model as it was.
 pub fn adapters_have_no_part()
     ensures alone { (s : State) (c : Command View) → IsAloneToo s c }

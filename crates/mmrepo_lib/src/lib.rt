@@ -1,8 +1,9 @@
 //! All that a program needs to keep models, under one name.
 //!
 //! A crate of yours names only `mmrepo_lib` in its line of `crates.txt`. `check_document` reads a metamodel and tests whether it is
-//! well-formed. A `Repository` over this metamodel makes objects, links them, notifies adapters, saves and loads. `specs/Steps.antt` has
-//! the definitions that the contracts of a repository cite, for proofs about your own code. docs/LIBRARY.md has a first program.
+//! well-formed. A `Repository` over this metamodel makes objects, links them, notifies adapters, saves and loads. For proofs about your own
+//! code, `specs/Steps.antt` has most of the definitions that the contracts of a repository cite; `specs/Commands.antt` has the commands.
+//! docs/LIBRARY.md has a first program.
 #![tactic(auto)]
 
 pub mod laws;

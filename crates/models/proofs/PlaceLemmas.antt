@@ -100,9 +100,6 @@ pub object-there : (q : Option Value) (o : ObjectNo) → option_and_then links.o
 object-there None o h = absurd (none-some o h)
 object-there (Some v) o h = ap Some (object-is v o h)
 
-pub value_in-object : (s : Model) (e : End) (k : ℕ) (o : ObjectNo) → (shape s.metamodel e.feature).is_reference ≡ true → links.object_at s.links e k ≡ Some o → Some (value.Object o) ≡ slice_get ((reading s).values e) k
-value_in-object s e k o reference h = rw reference (sym (object-there (slice_get (end s.links e) k) o h))
-
 proxy-is : (r : Reading) (f : FeatureNo) (v : Value) → is_legal_target r f v ≡ true → links.object_of v ≡ None → option_map value.Proxy (links.text_of v) ≡ Some v
 proxy-is r f (value.Object o) h none = absurd (none-some o (sym none))
 proxy-is r f (value.Proxy t) h none = refl

@@ -1,5 +1,5 @@
--- Why a call that names an object, a resource, a class or a feature is refused: the thing does not exist, or the class is abstract. The
--- look-ups that find the reason take no memory.
+-- Why a call is refused for what it names: an object, a resource or a class that does not exist, a class that is abstract, or an end whose
+-- node does not have the feature. The look-ups that find the reason take no memory.
 use Rattle.std.specs.Prelude.{◌&&◌, Option, is_some}
 use Rattle.mm_types.specs.Conditions.{◌unless◌, ◌else_by◌}
 use Rattle.mm_types.specs.Lookups as lookups

@@ -36,8 +36,8 @@ is_short _ = true
 abbrev pub is_legal_value : Metamodel → FeatureNo → Value → Bool
 is_legal_value m f v = lookups.keeps m f v && is_short v
 
--- whether an object of a class may store a list under a feature: the list is empty, or the class has the feature, each value is legal for
--- the feature, and there are not too many values
+-- whether an object of the class c may store a list under the feature f. An empty list is always legal. Any other list is legal if c has f,
+-- each value is legal for f (`is_legal_value`), and the number of values is within the upper bound of f and LIST_VALUES (`is_bounded`)
 abbrev pub is_legal_list : Metamodel → ClassNo → FeatureNo → List Value → Bool
 is_legal_list m c f [] = true
 is_legal_list m c f (v ∷ vs) = lookups.has_feature m c f && (list_all (is_legal_value m f) (v ∷ vs) && is_bounded (shape m f) (length (v ∷ vs)))
@@ -46,8 +46,8 @@ abbrev pub IsUniqueList : Bool → List Value → Type 0
 IsUniqueList true vs = IsDistinct same_value vs
 IsUniqueList false vs = Unit {0}
 
--- the values that an object stores under a feature are legal: the list is legal, and repeats no value if the feature is unique; the flag is
--- on exactly if the feature is unsettable and single, and the list has a value
+-- what an object of the class c stores under the feature f is legal: the list is legal, and repeats no value if f is unique; the flag is on
+-- exactly if f is unsettable and single, and the list has a value
 pub record IsLegalStored (m : Metamodel) (c : ClassNo) (f : FeatureNo) (h : Stored) : Type 0 where
   pub values : IsTrue (is_legal_list m c f h.list)
   pub unique : IsUniqueList (shape m f).is_unique h.list
@@ -59,28 +59,31 @@ IsLegalObject m (Some o) = IsTrue (lookups.is_concrete m o.class) × ((f : Featu
 
 ---------------------------------------------------------------- links
 
--- for each feature: its opposite, and the containment among the feature and its opposite
+-- for each feature: its opposite, if it has one; and the containing feature: the feature or its opposite, if one of the two is a
+-- containment
 abbrev pub kinds_of : Metamodel → Kinds
 kinds_of m = record { opposite = λ f. (shape m f).opposite; container = λ f. (shape m f).containing }
 
--- a reference may hold proxies if neither it nor its opposite is a containment (EMF: EReference.isResolveProxies)
+-- whether a feature of the shape a may hold proxies: the feature is a reference, and neither the reference nor its opposite is a
+-- containment (EMF: EReference.isResolveProxies)
 abbrev pub takes_proxies : Shape → Bool
 takes_proxies a = a.is_reference && not (is_some a.containing)
 
--- whether a value is an object of a feature's type, or a proxy if the feature takes proxies
+-- whether a value is a live object of the type of the feature f; or, if f may hold proxies, whether the value is a proxy
 abbrev pub is_legal_target : Reading → FeatureNo → Value → Bool
 is_legal_target r f (value.Object o) = takes r f (value.Object o)
 is_legal_target r f (value.Proxy t) = takes_proxies (shape r.metamodel f)
 is_legal_target r f _ = false
 
--- whether a list is legal at an end: the list is empty, or the node has the feature, each value is legal for the feature, and there are not
--- too many values
+-- whether a list of objects and proxies is legal at the end e. An empty list is always legal. Any other list is legal if the node has the
+-- feature, each value is legal for the feature (`is_legal_target`), and the number of values is within the upper bound of the feature and
+-- LIST_VALUES (`is_bounded`)
 abbrev pub is_legal_end : Reading → End → List Value → Bool
 is_legal_end r e [] = true
 is_legal_end r e (v ∷ vs) =
     has_feature r e.node e.feature && (list_all (is_legal_target r e.feature) (v ∷ vs) && is_bounded (shape_at r e) (length (v ∷ vs)))
 
--- `Holds` is true of the text of each proxy
+-- `Holds` is true of the text of each proxy in the set of links s
 abbrev pub OfProxies : (List ℕ → Type 0) → Links → Type 0
 OfProxies Holds s = (l : Link) (t : List ℕ) → In l s → l.far ≡ Proxy t → Holds t
 
@@ -95,7 +98,7 @@ pub record AreLegalLinks (r : Reading) (s : Links) : Type 0 where
 
 ---------------------------------------------------------------- resources
 
--- the URIs of resources are results of joining, short and all different, and there are at most RESOURCES
+-- the URIs of resources are results of joining, have at most TEXT_BYTES bytes, and are all different; there are at most RESOURCES of them
 pub record AreLegalUris (us : List (List ℕ)) : Type 0 where
   pub count : length us ≤ RESOURCES
   pub joined : All IsJoined us

@@ -1,5 +1,6 @@
--- Keys of tables about references. A key has an object, a reference of the object, and a number: either an index under this reference, or
--- the number of an object under this reference.
+-- Keys of tables about references. A key has the number of an object, the number of a reference of this object, and a third number. In some
+-- tables the third number is the index of a value of the reference. In others it is the number of the object that a value is, or to which a
+-- proxy leads.
 use Rattle.std.specs.Prelude.{ℕ, ◌&&◌, Bool, nat_eq}
 use Rattle.mm_types.specs.declared.numbers.FeatureNo.{FeatureNo}
 use Rattle.mm_types.specs.declared.numbers.ObjectNo.{ObjectNo}

@@ -1,5 +1,5 @@
--- Models whose URIs are normalised. A result of joining is normalised if `url` reads the result as a URL and writes this URL as the same
--- text.
+-- Models whose URIs are normalised. A result of joining is normalised if the crate `url` reads the result as a URL and writes this URL as
+-- the same text.
 use Rattle.std.specs.List.{All}
 use Rattle.web_uris.specs.Addresses.{IsSteadyProxy}
 use Rattle.web_uris.specs.Joined.{IsWebUri}

@@ -8,7 +8,7 @@ use links::LinkStore;
 use mm_meta::Meta;
 use mm_types::{End, Node, ResourceNo};
 
-/// The end that holds the roots of a resource. Takes no memory.
+/// The end that holds the roots of a resource in any model of the metamodel `meta`. Takes no memory.
 pub fn contents_end(meta: &Meta, resource: ResourceNo) -> End
     ensures { result ≡ r.contents_end meta.now resource }
 {
@@ -18,7 +18,7 @@ pub fn contents_end(meta: &Meta, resource: ResourceNo) -> End
     }
 }
 
-/// The end of a resource that holds its roots (EMF: Resource.getContents). Takes no memory.
+/// The end that holds the roots of a resource (EMF: Resource.getContents). Takes no memory.
 pub fn roots_end<L: LinkStore>(model: &ModelRef<L>, resource: ResourceNo) -> End
     ensures { result ≡ r.roots_end (reading model.now) resource }
 {

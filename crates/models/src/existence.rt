@@ -1,5 +1,5 @@
-//! Why a call that names an object, a resource, a class or a feature is refused: the thing does not exist, or the class is abstract. No
-//! function here takes memory.
+//! Why a call is refused for what it names: an object, a resource or a class that does not exist, a class that is abstract, or an end whose
+//! node does not have the feature. No function here takes memory.
 ghost use Rattle.std.specs.Prelude.{◌≡◌};
 ghost use Rattle.models.specs.Existence as existence;
 ghost use Rattle.models.specs.Model.{reading};
@@ -10,7 +10,7 @@ use links::LinkStore;
 use mm_meta::Meta;
 use mm_types::{ClassNo, End, Node, ObjectNo, Refused, Value};
 
-/// Why no object of a class can be made: `NoClass` if no class has the number, or `Abstract` if the class is abstract.
+/// Why a new object of `class` is refused: `NoClass` if no class has this number, or `Abstract` if the class is abstract; otherwise `None`.
 pub fn class_refusal(meta: &Meta, class: ClassNo) -> Option<Refused>
     ensures { result ≡ existence.class_refusal meta.now class }
 {
@@ -23,7 +23,7 @@ pub fn class_refusal(meta: &Meta, class: ClassNo) -> Option<Refused>
     None
 }
 
-/// Why an object can't be named: `NoObject` if no live object has the number.
+/// Why a call that names `object` is refused: `NoObject` if no live object has this number; otherwise `None`.
 pub fn object_refusal<L: LinkStore>(model: &ModelRef<L>, object: ObjectNo) -> Option<Refused>
     ensures { result ≡ existence.object_refusal (reading model.now) object }
 {
@@ -33,7 +33,8 @@ pub fn object_refusal<L: LinkStore>(model: &ModelRef<L>, object: ObjectNo) -> Op
     None
 }
 
-/// Why a node can't be named: `NoObject` or `NoResource`.
+/// Why a call that names `node` is refused: `NoObject` if the node is an object that is not live, or `NoResource` if the node is a resource
+/// that does not exist; otherwise `None`.
 pub fn node_refusal<L: LinkStore>(model: &ModelRef<L>, node: Node) -> Option<Refused>
     ensures { result ≡ existence.node_refusal (reading model.now) node }
 {
@@ -46,7 +47,8 @@ pub fn node_refusal<L: LinkStore>(model: &ModelRef<L>, node: Node) -> Option<Ref
     }
 }
 
-/// Why a feature of a node can't be named: `NoObject`, `NoResource` or `NoFeature`.
+/// Why a call that names `end` is refused: first for its node (`node_refusal`), and then `NoFeature` if the node does not have the feature;
+/// `None` if neither applies.
 pub fn end_refusal<L: LinkStore>(model: &ModelRef<L>, end: End) -> Option<Refused>
     ensures { result ≡ existence.end_refusal (reading model.now) end }
 {
@@ -59,8 +61,8 @@ pub fn end_refusal<L: LinkStore>(model: &ModelRef<L>, end: End) -> Option<Refuse
     None
 }
 
-/// Why a feature of a node and a value for it can't be named: `NoObject` if the node or the value is an object that is not live; otherwise
-/// `NoResource` if no resource has the node's number, or else `NoFeature` if the node does not have the feature.
+/// Why a call that names `end` and a value for this end is refused: `NoObject` if the value or the node of `end` is an object that is not
+/// live; otherwise for the same reason as a call that names only `end` (`end_refusal`).
 pub fn value_refusal<L: LinkStore>(model: &ModelRef<L>, end: End, value: &Value) -> Option<Refused>
     ensures { result ≡ existence.value_refusal (reading model.now) end value.now }
 {

@@ -1,4 +1,4 @@
-//! The values that a feature may hold.
+//! Which values an attribute may hold, and how long a text or a URI may be.
 ghost use Rattle.std.specs.Prelude.{◌≡◌};
 ghost use Rattle.mm_types.specs.Lookups as m;
 ghost use Rattle.mm_types.specs.Shapes.{is_full_list, shape};

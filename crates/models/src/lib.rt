@@ -1,8 +1,8 @@
 //! A model as data: its metamodel, its values and its links together; what its ends hold; and which models are legal.
 //!
 //! `specs/Reading.antt` says what can be read of a model, `specs/Legal.antt` which models are legal, and `specs/Existence.antt` why a call
-//! is refused if something that it names does not exist. `ModelRef` borrows the parts in which a model is kept, and reads the model from
-//! them.
+//! is refused for what it names: something that does not exist, or an abstract class. `ModelRef` borrows the parts in which a model is
+//! kept, and reads the model from them.
 #![tactic(auto)]
 
 mod ends;

@@ -21,7 +21,7 @@ use mm_values::Values;
 use std::alloc::{AllocError, Global};
 
 impl<'a, L: LinkStore> ModelRef<'a, L> {
-    /// How many values an end has.
+    /// How many values an end has. A single attribute always has one: the value that is stored, or else the default.
     pub fn len(&self, end: End) -> u32
         ensures { result ≡ length ((reading self.now).values end) }
     {
@@ -65,7 +65,8 @@ impl<'a, L: LinkStore> ModelRef<'a, L> {
         self.store().at(end, index)
     }
 
-    /// A position of an end before which there is no proxy. A search for a proxy can begin there.
+    /// A position of an end before which there is no proxy; this may be the position after the last value. A search for a proxy can begin
+    /// there.
     pub fn proxy_start(&self, end: End) -> u32
         ensures { (k : ℕ) → k < result → option_and_then text_of (slice_get ((reading self.now).values end) k) ≡ None }
     {
@@ -77,7 +78,7 @@ impl<'a, L: LinkStore> ModelRef<'a, L> {
         0
     }
 
-    /// Whether `value` is at a position of a reference.
+    /// Whether `value` is at the position `index` of a reference.
     fn has_target(&self, end: End, index: u32, value: &Value) -> bool
         requires reference { (shape self.now.metamodel end.feature).is_reference ≡ true }
         ensures { result ≡ option_map_or (same_value value.now) (slice_get ((reading self.now).values end) index) false }
@@ -88,7 +89,8 @@ impl<'a, L: LinkStore> ModelRef<'a, L> {
         }
     }
 
-    /// The position of a value in a reference; `None` if the value is not there. The search begins at the first position.
+    /// The first position of a value in a reference; `None` if the value is not there. Looks at the positions one after another, from the
+    /// first one on.
     fn target_position(&self, end: End, value: &Value) -> Option<u32>
         requires reference { (shape self.now.metamodel end.feature).is_reference ≡ true }
         ensures { result ≡ first_in ((reading self.now).values end) value.now }
@@ -162,7 +164,7 @@ pub fn copied_list<L: LinkStore>(
     Ok(Seq::from_vec(values))
 }
 
-/// Whether an attribute has its default since nothing is stored: the attribute is single, and no value is stored.
+/// Whether an attribute is single and has no stored value. The value of the attribute is then its default.
 fn has_default(meta: &Meta, values: &Values, end: End) -> bool
     ensures { result ≡ (is_nil (kept_values (values_of values.now) end.node end.feature) && (shape meta.now end.feature).is_single) }
 {
@@ -177,7 +179,7 @@ fn default_of(meta: &Meta, feature: FeatureNo) -> Option<&Value>
     meta.default(feature)
 }
 
-/// How many values an attribute has.
+/// How many values an attribute has. A single attribute with no stored value has one: its default.
 #[tactic(auto, using(crate::proofs::ReadLemmas::attribute_values_by))]
 fn attribute_len(meta: &Meta, values: &Values, end: End) -> usize
     ensures { result ≡ length (attribute_values (shape meta.now end.feature) (kept_values (values_of values.now) end.node end.feature)) }
@@ -205,7 +207,7 @@ fn attribute_value_in<'a>(
     }
 }
 
-/// The first position of a value in an attribute.
+/// The first position of a value in an attribute; `None` if the value is not there.
 #[tactic(auto, using(crate::proofs::ReadLemmas::attribute_values_by))]
 fn attribute_position(meta: &Meta, values: &Values, end: End, value: &Value) -> Option<usize>
     requires attribute { (shape meta.now end.feature).is_reference ≡ false }
@@ -235,7 +237,7 @@ fn attribute_has(meta: &Meta, values: &Values, end: End, value: &Value) -> bool
     kept_has(values, end, value)
 }
 
-/// The first position of a value among the values that are stored under an attribute.
+/// The first position of a value among the values that are stored under an attribute; `None` if the value is not there.
 #[tactic(auto, using(crate::proofs::PlaceLemmas::first_in_position))]
 fn kept_position(values: &Values, end: End, value: &Value) -> Option<usize>
     ensures { result ≡ first_in (kept_values (values_of values.now) end.node end.feature) value.now }

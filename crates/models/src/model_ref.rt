@@ -13,7 +13,8 @@ use mm_types::{ClassNo, End, FeatureNo, Node, ObjectNo, ResourceNo};
 use mm_values::Values;
 use std::marker::Model;
 
-/// A legal model in the parts in which it is kept: a metamodel, values, and a store of links. Contracts see it as the model of these parts.
+/// A legal model, borrowed in the parts in which it is kept: a metamodel, values, and a store of links. Contracts see a `ModelRef` as the
+/// model of these parts.
 ///
 /// No read of a `ModelRef` takes memory.
 #[derive(Drop)]
@@ -40,7 +41,7 @@ impl<'a, L: LinkStore> Model for ModelRef<'a, L> {
 }
 
 impl<'a, L: LinkStore> ModelRef<'a, L> {
-    /// The model of a metamodel, values and links, which has to be legal.
+    /// The model of a metamodel, values and links. The model has to be legal.
     pub fn new(meta: &'a Meta, values: &'a Values, store: &'a L) -> Self
         requires legal { IsLegal (model_of meta.now (values_of values.now) (L.links store.now)) }
         ensures { result ≡ model_of meta.now (values_of values.now) (L.links store.now) }
@@ -52,7 +53,7 @@ impl<'a, L: LinkStore> ModelRef<'a, L> {
         }
     }
 
-    /// The model of every `ModelRef` is legal. Code calls this function if its proof needs this fact and knows the model only as contracts
+    /// The model of every `ModelRef` is legal. A call of this function gives this fact to a proof that knows the model only as contracts
     /// see it.
     pub fn lemma_is_legal(&self)
         ensures { IsLegal self.now }
@@ -67,7 +68,7 @@ impl<'a, L: LinkStore> ModelRef<'a, L> {
         self.meta
     }
 
-    /// The links.
+    /// The store of links.
     pub fn store(&self) -> &'a L
         ensures links { L.links result.now ≡ self.now.links }
         ensures legal { IsLegalSet (L.links result.now) }
@@ -157,7 +158,8 @@ impl<'a, L: LinkStore> ModelRef<'a, L> {
         }
     }
 
-    /// The end that contains a node (EMF: EObject.eContainer, eContainmentFeature); `None` if no end does, as for a resource.
+    /// The end that contains a node (EMF: EObject.eContainer, eContainmentFeature); `None` if no end contains the node. The end that
+    /// contains a root of a resource is the end `contents` of the resource; no end contains a resource.
     pub fn holder(&self, node: Node) -> Option<End>
         ensures { result ≡ (reading self.now).holder node }
     {

@@ -1,4 +1,4 @@
-//! Reads of ends: the value of a single end, whether an end is set, and which values a feature may hold.
+//! Reads of ends: the value of a single end, whether an end is set, and which values a caller may give a feature.
 ghost use Rattle.std.specs.Prelude.{◌≡◌, [], true, false, Bool, Option, unwrap_or, option_map, option_copied, length, not, slice_get, IfOk};
 ghost use Rattle.std.specs.Option.{option_map_or};
 ghost use Rattle.mm_types.specs.Ends as ends;
@@ -34,7 +34,7 @@ pub enum Found<'a> {
 }
 
 impl Found<'_> {
-    /// A copy, as a value of its own. Fails only if memory is refused.
+    /// A copy of the value that was found. The copy borrows nothing. Fails only if memory is refused.
     pub fn to_value(&self, alloc: Global) -> Result<Value, AllocError>
         ensures { IfOk result (λ v. v ≡ found_value self.now) }
     {
@@ -89,8 +89,9 @@ fn proxy_of(alloc: Global, text: &str) -> Result<Value, AllocError>
 }
 
 impl<'a, L: LinkStore> ModelRef<'a, L> {
-    /// The value of a single end (EMF: EObject.eGet). The value of an attribute is the value that was set, or else the default. The value
-    /// of a reference is an object or a proxy; a proxy is not resolved. `None` stands for null.
+    /// The value of a single end (EMF: EObject.eGet). The value of an attribute is the value that is stored, or else the default. The value
+    /// of a reference is an object or a proxy; a proxy is not resolved. The null of an empty reference is `None`; the null of an attribute
+    /// is a `Found::Kept`.
     pub fn value_at(&self, end: End) -> Option<Found<'a>>
         ensures { unwrap_or (option_map found_value result) Null ≡ r.value_at (reading self.now) end }
     {
@@ -118,8 +119,8 @@ impl<'a, L: LinkStore> ModelRef<'a, L> {
         }
     }
 
-    /// Whether a caller may give a feature this value; never if it is a proxy, since proxies come only from documents. The feature
-    /// `contents` takes every live object.
+    /// Whether a caller may give a feature a value. A caller may never give a proxy, since proxies come only from documents. The feature
+    /// `contents` takes every live object. The length of a text is not tested here (`is_short` tests it).
     pub fn takes(&self, feature: FeatureNo, value: &Value) -> bool
         ensures { result ≡ r.takes (reading self.now) feature value.now }
     {
@@ -139,8 +140,8 @@ impl<'a, L: LinkStore> ModelRef<'a, L> {
         }
     }
 
-    /// Whether a caller may give a reference this value: null if the reference is `single`, or an object whose class conforms to `target`;
-    /// never a proxy.
+    /// Whether a caller may give a value to a reference to objects of the class `target`: null if the reference is single (`single`), or a
+    /// live object whose class conforms to `target`; never a proxy.
     fn is_reference_value(&self, single: bool, target: ClassNo, value: &Value) -> bool
         ensures { result ≡ m.is_reference_value self.now.metamodel (reading self.now).class single target value.now }
     {
@@ -234,7 +235,7 @@ fn is_attribute_set(
     if is_unsettable {
         return flag_at(values, end);
     }
-    // An attribute with no stored value has its default.
+    // If no value is stored, the value of the attribute is its default, so the attribute is not set.
     is_other(kept_at(values, end, 0), default)
 }
 
@@ -265,7 +266,7 @@ pub fn is_same(a: &Value, b: &Value) -> bool
     a == b
 }
 
-/// A copy of what was found; `None` stands for null. Fails only if memory is refused.
+/// A copy of the value that was found; null if `found` is `None`. Fails only if memory is refused.
 pub fn copied(alloc: Global, found: Option<Found>) -> Result<Value, AllocError>
     ensures { IfOk result (λ w. w ≡ unwrap_or (option_map found_value found.entry) Null) }
 {

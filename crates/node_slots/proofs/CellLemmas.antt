@@ -203,15 +203,6 @@ forget_cells n f k c = λ i.
       entered = λ m. same_twice (same_node n m) (c.entered m) i;
     }
 
-pub forget_entries_cells : (n : Node) (k : ℕ) (c : Cells) → cell_edit n (ForgetEntries k) c ≡ c
-forget_entries_cells n k c = λ i.
-    record {
-      vals = λ e. same_twice (same_node n e.node) (c.vals e) i;
-      pairing = λ e. same_twice (same_node n e.node) (c.pairing e) i;
-      hold = λ m. same_twice (same_node n m) (c.hold m) i;
-      entered = λ m. same_twice (same_node n m) (c.entered m) i;
-    }
-
 pub grown_room : (t u : NodeSlots) → ((n : Node) → IsRowGrown (row_at t n) (row_at u n)) → HasGained no_values no_ends (room t) (room u)
 unfolding room
 grown_room t u each = record {

@@ -88,17 +88,6 @@ row_same o = record {
   entries = omega arith;
 }
 
-pub row_grown_twice : (o p q : Option Row) → IsRowGrown o p → IsRowGrown p q → IsRowGrown o q
-row_grown_twice o p q a b = record {
-  vals = λ g. b.vals g ∙ a.vals g;
-  pairing = λ g. b.pairing g ∙ a.pairing g;
-  hold = b.hold ∙ a.hold;
-  entered = b.entered ∙ a.entered;
-  places = λ g. omega (arith, a.places g, b.places g);
-  mixed = λ g h. b.mixed g (a.mixed g h);
-  entries = omega (arith, a.entries, b.entries);
-}
-
 pub row_reordered : (r s : Row) → s.slots ≡ r.slots → s.holder ≡ r.holder → s.promised ≡ r.promised → IsPermutation r.entered.items s.entered.items → s.entered.spare ≡ r.entered.spare → IsRowReordered (Some r) (Some s)
 row_reordered r s slots holder promised entered spare = record {
   vals = λ g. ap (λ (ss : List Slot). values_of (slot_in ss g)) slots;

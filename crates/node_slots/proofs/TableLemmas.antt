@@ -2,7 +2,7 @@
 use Rattle.std.proofs.Common.{◌≡◌, ◌≢◌, ℕ, zero, suc, ◌+◌, ◌<◌, ◌≤◌, ◌⊎◌, List, [], ◌∷◌, ◌++◌, length, get_or, set, Option, Some, None, refl, sym, ap, ◌∙◌, subst, inl, inr, arith}
 use Rattle.std.specs.List.{slice_get}
 use Rattle.std.proofs.lemmas.Bool.{cases_eq}
-use Rattle.std.proofs.lemmas.List.{length-append, length-set}
+use Rattle.std.proofs.lemmas.List.{length-append}
 use Rattle.std.proofs.lemmas.Option.{same_Some, slice_get-get_or}
 use Rattle.links.proofs.ListLemmas.{slice_get-push, slice_get-push_below}
 use Rattle.node_slots.specs.declared.row.Row.{Row}
@@ -32,15 +32,6 @@ row_index_at-zero [] (suc n) = refl
 row_index_at-zero (p ∷ ps) zero = refl
 row_index_at-zero (p ∷ ps) (suc n) = row_index_at-zero ps n
 
-pub places_same : (ps qs : List ℕ) (c : ℕ) → ((n : ℕ) → row_index_at qs n ≡ row_index_at ps n) → ArePlaces ps c → ArePlaces qs c
-places_same ps qs c same ok = record {
-  within = λ n k h. ok.within n k (sym (same n) ∙ h);
-  apart = λ m n k a b. ok.apart m n k (sym (same m) ∙ a) (sym (same n) ∙ b);
-}
-
-pub places_none : (c : ℕ) → ArePlaces [] c
-places_none c = record { within = λ n k h. cc; apart = λ m n k a b. cc }
-
 ---------------------------------------------------------------- a row written
 
 -- the row r that was read at the index k of number n is written as s
@@ -65,9 +56,6 @@ module _ (ps : List ℕ) (rs : List Row) (n k : ℕ) (r s : Row) (ok : ArePlaces
     | None ↦ λ q. refl
     | Some j ↦ λ q. slice_get-set_other rs k j s (λ e. ne (ok.apart m n k (q ∙ ap Some e) at))
   ] refl
-
-  pub written_places : ArePlaces ps (length (set rs k s))
-  written_places = subst (λ c. ArePlaces ps c) (sym (length-set rs k s)) ok
 
   pub written_edited : (x : RowEdit) → IsRowEdited x (Some r) (Some s) → AreRowsEdited n x (row_in old) (row_in new)
   written_edited x h = record {

@@ -1,4 +1,4 @@
--- The rows of all nodes as functions of a node or an end, and these functions after one change of a node.
+-- What the rows of all nodes say, as functions of a node or of an end; and these functions after one change of a node.
 use Rattle.std.specs.Prelude.{◌≡◌, ℕ, zero, suc, ◌+◌, ◌≤◌, Bool, true, List, [], ◌∷◌, ◌++◌, map, slice_get, IsPermutation, Option, Some, None, if◌then◌else◌}
 use Rattle.std.specs.List.{list_any}
 use Rattle.mm_types.specs.Same.{same_end, same_node}
@@ -16,15 +16,16 @@ use Rattle.node_slots.specs.Slots.{CanEdit, no_pairing, slot_edit_capacity}
 use Rattle.node_slots.specs.Rows.{entered_after, entries_taken, hold_after, is_row, places_taken, row_entered, row_entries, row_hold, row_mixed, row_pairing, row_indexes, row_slots, row_vals, told_after, vals_after}
 use Rattle.node_slots.specs.Tables.{Table, place_at, row_index_at, row_from, row_in}
 
--- for each end: its values, and the opposite and the containing feature of its feature, as puts of objects gave them; for each node: the
--- end that contains the node, and the node's entries, which are the ends with no opposite that have the node as a value
+-- for each end: its values, and the opposite and the containing feature of the end's feature, as the last put of an object into the end
+-- gave them; for each node: the end that contains the node, and the node's entries, which are the ends with no opposite that have the node
+-- as a value
 pub record Cells : Type 0 where
   pub vals : End → List Value
   pub pairing : End → Pairing
   pub hold : Node → Option End
   pub entered : Node → List End
 
--- no end has a value, no node has a container, and no node is the value of an end
+-- no end has a value or a pairing, no end contains a node, and no node is the value of an end
 abbrev pub no_cells : Cells
 no_cells = record { vals = λ e. []; pairing = λ e. no_pairing; hold = λ n. None; entered = λ n. [] }
 
@@ -42,7 +43,7 @@ abbrev pub row_at : NodeSlots → Node → Option Row
 row_at t (node.Object o) = row_in t.objects o.0
 row_at t (node.Resource r) = row_in t.resources r.0
 
--- the index of the row of a node, if it has one
+-- the index of the row of a node; none if the node has no row
 abbrev pub row_index_of : NodeSlots → Node → Option ℕ
 row_index_of t (node.Object o) = row_index_at t.objects.places o.0
 row_index_of t (node.Resource r) = row_index_at t.resources.places r.0
@@ -68,9 +69,9 @@ room t =
 abbrev pub slot_ends : Node → List Slot → List End
 slot_ends n ss = map (λ s. record { node = n; feature = s.feature }) ss
 
--- the ends that have a slot, of the nodes with the numbers from k on; `at` gives the node with a number. The last argument has an element
--- for each of these nodes, in the order of their numbers: 0 if the node has no row, else one more than the index of its row in rs, the list
--- of all rows
+-- the ends that have a slot, for the nodes with the numbers k, k + 1, and so on; `at` gives the node with a number. The last argument has
+-- an element for each of these nodes, in the order of their numbers: 0 if the node has no row, else one more than the index of the node's
+-- row in rs, the list of all rows
 abbrev pub row_ends : (ℕ → Node) → ℕ → List Row → List ℕ → List End
 row_ends at k rs [] = []
 row_ends at k rs (p ∷ ps) = slot_ends (at k) (row_slots (row_from rs (place_at (Some p)))) ++ row_ends at (suc k) rs ps
@@ -101,7 +102,7 @@ pub record AreReordered (old new : Cells) : Type 0 where
 
 ---------------------------------------------------------------- one change
 
--- the cells after a change of the node n
+-- the cells c after the change x of the node n
 abbrev pub cell_edit : Node → RowEdit → Cells → Cells
 cell_edit n x c =
     record {
@@ -112,7 +113,8 @@ cell_edit n x c =
     }
 
 -- the capacity r is enough for what a change of the node n adds, and the change takes back no more capacity than r has. A value other than
--- an object is added only to an end that may have values other than objects. A holder is given only to a node with a row
+-- an object is added only to an end that may have values other than objects. An end that contains the node is recorded only if the node has
+-- a row
 abbrev pub Fits : Node → RowEdit → Room → Type 0
 Fits n (Change f x) r = (slot_edit_capacity x ≤ r.places (record { node = n; feature = f })) × CanEdit (r.mixed (record { node = n; feature = f })) x
 Fits n (Hold None) r = Unit {0}
@@ -121,7 +123,8 @@ Fits n (Enter d) r = 1 ≤ r.entries n
 Fits n (Leave i) r = Unit {0}
 Fits n (ForgetEntries k) r = k ≤ r.entries n
 
--- the capacity stays, minus the capacity that a change of the node n uses
+-- the capacity after the change x of the node n: at least the old capacity minus what the change takes. Which ends may have values other
+-- than objects, and which nodes have rows, does not change
 pub record KeepsRoom (n : Node) (x : RowEdit) (old new : Room) : Type 0 where
   pub places : (e : End) → old.places e ≤ new.places e + (if same_node n e.node then places_taken x e.feature else zero)
   pub mixed : (e : End) → new.mixed e ≡ old.mixed e

@@ -1,4 +1,4 @@
--- How much capacity a plan needs.
+-- How much capacity a plan needs, and how much a reservation adds.
 use Rattle.std.specs.Prelude.{◌≡◌, ℕ, ◌+◌, ◌≤◌, Bool, true, false, List, [], ◌∷◌, sum_by, Option, Some, None}
 use Rattle.mm_types.specs.Same.{same_end, same_node}
 use Rattle.mm_types.specs.declared.numbers.FeatureNo.{FeatureNo}
@@ -30,7 +30,7 @@ abbrev pub lone_entry : ObjectNo → Option FeatureNo → Node → ℕ
 lone_entry o None n = one_if (same_node (node.Object o) n)
 lone_entry o (Some g) n = 0
 
--- how many entries of the node n an edit adds. The entries of a node are the ends with no opposite that have the node as a value
+-- how many entries an edit adds to the node n. The entries of a node are the ends with no opposite that have the node as a value
 abbrev pub entry : Node → Edit → ℕ
 entry n (edit.Cut e v) = 0
 entry n (edit.Put l) = lone_entry l.object l.opposite n

@@ -34,15 +34,15 @@ abbrev pub row_entered : Option Row → List End
 row_entered None = []
 row_entered (Some r) = r.entered.items
 
--- how many more values a feature can take without memory
+-- for how many more values of a feature capacity is reserved
 abbrev pub row_indexes : Option Row → FeatureNo → ℕ
 row_indexes o f = places_of (row_slot o f)
 
--- whether a feature can take other values than objects
+-- whether a feature may have values other than objects
 abbrev pub row_mixed : Option Row → FeatureNo → Bool
 row_mixed o f = mixed_of (row_slot o f)
 
--- how many more entries the node can take without memory
+-- for how many more entries of the node capacity is reserved
 abbrev pub row_entries : Option Row → ℕ
 row_entries None = zero
 row_entries (Some r) = min r.promised r.entered.spare
@@ -53,7 +53,7 @@ is_row (Some r) = true
 
 ---------------------------------------------------------------- one change
 
--- the values at feature g after a change
+-- the values of the feature g after a change
 abbrev pub vals_after : RowEdit → FeatureNo → List Value → List Value
 vals_after (Change f x) g vs = if same_feature f g then values_after x vs else vs
 vals_after (Hold h) g vs = vs
@@ -61,7 +61,8 @@ vals_after (Enter d) g vs = vs
 vals_after (Leave i) g vs = vs
 vals_after (ForgetEntries n) g vs = vs
 
--- the pairing of feature g after a change: the opposite of g, and the containing feature, which is g or its opposite
+-- the pairing of the feature g after a change. A pairing has the opposite of g, if g has one, and the containing feature: g or its
+-- opposite, if one of the two is a containment
 abbrev pub told_after : RowEdit → FeatureNo → Pairing → Pairing
 told_after (Change f x) g p = if same_feature f g then pairing_after x p else p
 told_after (Hold h) g p = p
@@ -100,7 +101,7 @@ entries_taken (Leave i) = zero
 entries_taken (ForgetEntries n) = n
 
 -- there is capacity for what the change adds, and the change takes back no more capacity than is reserved. A value other than an object is
--- added only to an end that may have values other than objects. A holder is given only to a node with a row
+-- added only to an end that may have values other than objects. An end that contains the node is recorded only if the node has a row
 abbrev pub RowFits : RowEdit → Option Row → Type 0
 RowFits (Change f x) o = (slot_edit_capacity x ≤ row_indexes o f) × CanEdit (row_mixed o f) x
 RowFits (Hold None) o = Unit {0}
@@ -119,12 +120,13 @@ pub record IsRowEdited (x : RowEdit) (old new : Option Row) : Type 0 where
   pub entries : row_entries old ≤ row_entries new + entries_taken x
   pub kept : is_row new ≡ is_row old
 
--- the row at i is changed, and no other row
+-- the row of the node with the number i is changed, and no other row
 pub record AreRowsEdited (i : ℕ) (x : RowEdit) (old new : ℕ → Option Row) : Type 0 where
   pub here : IsRowEdited x (old i) (new i)
   pub others : (j : ℕ) → ((j ≡ i) → ⊥) → new j ≡ old j
 
--- the row has the same content and no less capacity; a node that had no row may have one now
+-- the row has the same content and no less capacity; a feature that could have values other than objects still can. A node that had no row
+-- may have an empty one now
 pub record IsRowGrown (old new : Option Row) : Type 0 where
   pub vals : (g : FeatureNo) → row_vals new g ≡ row_vals old g
   pub pairing : (g : FeatureNo) → row_pairing new g ≡ row_pairing old g

@@ -46,7 +46,7 @@ CanEdit mixed (Remove i) = Unit {0}
 CanEdit mixed (Move to from) = Unit {0}
 CanEdit mixed (Forget n) = Unit {0}
 
--- the number of further values for which capacity is reserved
+-- the number of further values for which capacity is reserved in a slot
 abbrev pub slot_places : Slot → ℕ
 slot_places s = min s.promised s.values.spare
 
@@ -60,7 +60,7 @@ pub record IsSlotEdited (x : SlotEdit) (old new : Slot) : Type 0 where
 
 ---------------------------------------------------------------- the slots of a node
 
--- the first slot of a feature
+-- the first slot of a feature; none if the feature has no slot
 abbrev pub slot_in : List Slot → FeatureNo → Option Slot
 slot_in [] f = None
 slot_in (s ∷ ss) f = if same_feature s.feature f then Some s else slot_in ss f
@@ -73,12 +73,12 @@ abbrev pub pairing_of : Option Slot → Pairing
 pairing_of None = no_pairing
 pairing_of (Some s) = s.pairing
 
--- how many more values a feature can take without memory
+-- for how many more values of a feature capacity is reserved
 abbrev pub places_of : Option Slot → ℕ
 places_of None = 0
 places_of (Some s) = slot_places s
 
--- whether a feature can take other values than objects
+-- whether a feature may have values other than objects
 abbrev pub mixed_of : Option Slot → Bool
 mixed_of None = false
 mixed_of (Some s) = s.values.mixed
@@ -95,7 +95,7 @@ pub record AreSlotsEdited (f : FeatureNo) (x : SlotEdit) (old new : List Slot) :
   pub here : IsFeatureEdited x (slot_in old f) (slot_in new f)
   pub others : (g : FeatureNo) → ((f.0 ≡ g.0) → ⊥) → slot_in new g ≡ slot_in old g
 
--- the same values, with no less capacity; a feature that could take other values than objects still can
+-- the same values and pairing, with no less capacity; a feature that could have values other than objects still can
 pub record IsFeatureGrown (old new : Option Slot) : Type 0 where
   pub values : values_of new ≡ values_of old
   pub pairing : pairing_of new ≡ pairing_of old

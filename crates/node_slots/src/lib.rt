@@ -2,9 +2,10 @@
 //! the node as a value.
 //!
 //! `NodeSlots::reserve_for` reserves capacity for a plan of edits; `NodeSlots::edit` then makes one change of a node and takes no memory. A
-//! node has a row once capacity was reserved for it. A node without a row takes four bytes of an index (`RowTable`) if a node of the same
-//! kind with a higher number has a row; otherwise it takes no memory. A reservation for more values or rows than can be counted fails as if
-//! memory were refused.
+//! node has a row once capacity was reserved for it. A node without a row takes four bytes, in a table of indexes (`RowTable`), if a node
+//! of the same kind (object or resource) with a higher number has a row. Otherwise it takes no memory, unless memory for a row was refused.
+//! A reservation for more values, entries or rows than can be counted fails as if memory were refused; entries are the ends with no
+//! opposite that have a node as a value.
 #![tactic(auto)]
 
 mod node_slots;

@@ -103,7 +103,7 @@ impl NodeSlots {
         }
     }
 
-    /// Whether a value is at an index of an end.
+    /// Whether `value` is at the index `index` of an end.
     #[tactic(auto, unfolding(crate::specs::Cells::cells))]
     pub fn is_at(&self, end: End, index: usize, value: &Value) -> bool
         ensures { result ≡ is_value value.now (slice_get ((cells self.now).vals end) index) }
@@ -114,7 +114,7 @@ impl NodeSlots {
         }
     }
 
-    /// The index of a value in an end; `None` if the value is not there.
+    /// The first index of a value in an end; `None` if the value is not there.
     #[tactic(auto, unfolding(crate::specs::Cells::cells))]
     pub fn position(&self, end: End, value: &Value) -> Option<usize>
         ensures { result ≡ position (same_value value.now) ((cells self.now).vals end) }
@@ -124,8 +124,8 @@ impl NodeSlots {
 
     /// A guess at the index of a value in an end. In a list with labels, the guess is right if each object has a label and the labels rise
     /// along the list. In a list with neither labels nor proxies, the guess is right if the numbers of the objects rise or fall along the
-    /// list. The guess for a proxy is right if the proxy is the first one, and no object comes after it. Otherwise the guess may be any
-    /// index.
+    /// list. The guess for a proxy is right if the proxy is the first proxy of the end, and no object comes after this proxy. Otherwise the
+    /// guess may be any index, or the number of values.
     pub fn guess(&self, end: End, value: &Value) -> usize {
         match self.slot(end) {
             Some(slot) => slot.values.guess(value),
@@ -133,8 +133,8 @@ impl NodeSlots {
         }
     }
 
-    /// The opposite and the containing feature of an end's feature, as the last put of an object into the end gave them; neither of them if
-    /// no object was put.
+    /// The opposite and the containing feature of an end's feature, as the last put of an object into the end gave them; both `None` if no
+    /// object was put into the end.
     #[tactic(auto, unfolding(crate::specs::Cells::cells))]
     pub fn pairing(&self, end: End) -> Pairing
         ensures { result ≡ (cells self.now).pairing end }
@@ -167,7 +167,7 @@ impl NodeSlots {
         }
     }
 
-    /// The end at an index among the ends with no opposite that have a node as a value; `None` past the last one.
+    /// Of the ends with no opposite that have a node as a value, the one at `index`; `None` past the last of them.
     #[tactic(auto, unfolding(crate::specs::Cells::cells))]
     pub fn entered_at(&self, node: Node, index: usize) -> Option<&End>
         ensures { option_copied result ≡ slice_get ((cells self.now).entered node) index }
@@ -204,9 +204,10 @@ impl NodeSlots {
         }
     }
 
-    /// Makes one change of a node. There is capacity for the change (`Fits`). Takes no memory. The capacity of an end may always be used
-    /// for an object. It may be used for a proxy only if the end may have values other than objects; `reserve_for` allows such values at
-    /// each end into which its plan puts a proxy.
+    /// Makes one change of a node. The change has to meet `Fits`: there is capacity for what it adds, it takes back no more capacity than
+    /// is reserved, and it sets an end that contains the node only if the node has a row. Takes no memory. The capacity of an end may
+    /// always be used for an object. It may be used for a proxy only if the end may have values other than objects; `reserve_for` allows
+    /// values other than objects at each end into which its plan puts a proxy.
     pub fn edit(&mut self, node: Node, edit: RowEdit)
         requires { Fits node edit (room self.old) }
         ensures cells { cells self.new ≡ cell_edit node edit (cells self.old) }
@@ -218,8 +219,8 @@ impl NodeSlots {
         }
     }
 
-    /// Makes one change of a node, as `edit` does; `row_index` is the index of the node's row. There is capacity for the change. Takes no
-    /// memory, and moves no row.
+    /// Makes one change of a node, as `edit` does; `row_index` is the index of the node's row. The change has to meet `Fits`. Takes no
+    /// memory. Each row keeps its index.
     pub fn edit_at(&mut self, node: Node, row_index: usize, edit: RowEdit)
         requires at { row_index_of self.old node ≡ Some row_index }
         requires fits { Fits node edit (room self.old) }

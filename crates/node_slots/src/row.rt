@@ -15,16 +15,16 @@ use std::alloc::{AllocError, Global};
 /// One change of the row of a node.
 #[derive(Drop)]
 pub enum RowEdit {
-    /// Changes the values of a feature.
+    /// Changes the values of a feature, or takes back capacity that was reserved for them.
     Change(FeatureNo, SlotEdit),
-    /// Sets the end that contains the node; `None` if no end does.
+    /// Records which end contains the node; `None` if no end contains the node.
     Hold(Option<End>),
-    /// Adds an end with no opposite that has the node as a value.
+    /// Adds an end that has the node as a value and has no opposite.
     Enter(End),
-    /// Takes out the end at an index among the ends with no opposite that have the node as a value. If the index is past the last of these
+    /// Of the ends with no opposite that have the node as a value, takes out the one at this index. If the index is past the last of these
     /// ends, nothing changes.
     Leave(usize),
-    /// Takes back capacity that was reserved for ends with no opposite that have the node as a value. No end changes.
+    /// Takes back reserved capacity for this number of ends with no opposite that have the node as a value. No end changes.
     ForgetEntries(usize),
 }
 
@@ -34,14 +34,15 @@ pub struct Row {
     pub slots: RowSlots,
     /// The end that contains the node.
     pub holder: Option<End>,
-    /// The ends with no opposite that have the node as a value, in the order in which they were added, until `order_entries` sorts them.
+    /// The ends with no opposite that have the node as a value. They are in the order in which they were added, except that `order_entries`
+    /// sorts the ends that are there when it is called.
     pub entered: ShortList<End>,
     /// The number of further ends for which capacity is reserved in `entered`.
     pub promised: usize,
 }
 
 impl Row {
-    /// The row of a node that has no values, and is a value of no end. Takes no memory.
+    /// The row of a node that has no values, is contained in no end, and is a value of no end. Takes no memory.
     pub fn new() -> Self
         ensures slots { result.slots ≡ [] }
         ensures holder { result.holder ≡ None }
@@ -66,8 +67,9 @@ impl Row {
         }
     }
 
-    /// Makes one change, for which `promise` or `promise_entry` reserved the capacity. Takes no memory. A value that is put in is an
-    /// object, unless capacity was reserved for any value.
+    /// Makes one change. If the change adds a value or an end, `promise` or `promise_entry` must have reserved capacity for it. A value
+    /// that is put in must be an object, unless capacity was reserved for any value. A change must not take back more capacity than is
+    /// reserved. Takes no memory.
     pub fn edit(&mut self, edit: RowEdit)
         requires { RowFits edit (Some self.old) }
         ensures { IsRowEdited edit (Some self.old) (Some self.new) }
@@ -84,7 +86,7 @@ impl Row {
         }
     }
 
-    /// Sorts the ends with no opposite that have the node as a value. Takes no memory.
+    /// Sorts the ends with no opposite that have the node as a value, by the numbers that `entry_rank` gives. Takes no memory.
     pub fn order_entries(&mut self)
         ensures { IsRowReordered (Some self.old) (Some self.new) }
     {
@@ -114,7 +116,8 @@ impl Row {
         self.promised.min(self.entered.spare())
     }
 
-    /// Reserves capacity for one more end with no opposite that has the node as a value. Fails only if memory is refused; no end changes.
+    /// Reserves capacity for one more end that has the node as a value and has no opposite. Fails only if memory is refused; no end
+    /// changes.
     pub fn promise_entry(&mut self, alloc: Global) -> Result<(), AllocError>
         ensures grown { IsRowGrown (Some self.old) (Some self.new) }
         ensures ok { OnOk result (row_entries (Some self.old) + 1 ≤ row_entries (Some self.new)) }
@@ -129,7 +132,7 @@ impl Row {
     }
 }
 
-/// Adds an end after the last one. There is capacity for the end.
+/// Adds an end after the last one. There has to be capacity for the end.
 fn push_on(ends: &mut ShortList<End>, end: End)
     requires { 1 ≤ ends.old.spare }
     ensures items { ends.new.items ≡ ends.old.items ++ end ∷ [] }

@@ -9,7 +9,7 @@ use std::alloc::{AllocError, Global};
 use std::marker::Model;
 use std::{mem, slice};
 
-/// The layout of slots in memory. Most nodes have one slot, which takes no block of memory.
+/// The layout of slots in memory. Most nodes with slots have one slot, which takes no block of memory of its own.
 #[derive(Drop)]
 enum Layout {
     Empty,
@@ -17,8 +17,8 @@ enum Layout {
     Many(Vec<Slot>),
 }
 
-/// The slots of a node, in the order in which they were made. If a feature had several slots, only the first of them would count. Contracts
-/// see the list of slots.
+/// The slots of a node, in the order in which they were made. A feature never has two slots, but contracts don't say this: they see a list
+/// in which only the first slot of a feature counts.
 #[derive(Drop)]
 pub struct RowSlots {
     layout: Layout,
@@ -55,7 +55,7 @@ impl RowSlots {
         }
     }
 
-    /// Changes the values of a feature. If the feature has no slot, nothing changes.
+    /// Changes the values of a feature, or takes back capacity that was reserved for them. If the feature has no slot, nothing changes.
     pub fn edit(&mut self, feature: FeatureNo, edit: SlotEdit)
         requires places { slot_edit_capacity edit ≤ places_of (slot_in self.old feature) }
         requires can { CanEdit (mixed_of (slot_in self.old feature)) edit }
@@ -68,7 +68,7 @@ impl RowSlots {
         }
     }
 
-    /// Makes a slot for a feature, if the feature has none.
+    /// Makes a slot for a feature, if the feature has none. Fails only if memory is refused; no value changes.
     pub fn add(&mut self, alloc: Global, feature: FeatureNo) -> Result<(), AllocError>
         ensures grown { AreSlotsGrown self.old self.new }
         ensures ok { OnOk result ((slot_in self.new feature ≡ None) → ⊥) }
@@ -90,7 +90,8 @@ impl RowSlots {
         }
     }
 
-    /// Reserves capacity for one more value in the slot of a feature: for any value if `is_mixed`, otherwise for an object.
+    /// Reserves capacity for one more value in the slot of a feature. The feature has to have a slot. The capacity is for any value if
+    /// `is_mixed`, otherwise for an object. Fails only if memory is refused; no value changes.
     pub fn promise(
         &mut self,
         alloc: Global,
@@ -116,21 +117,22 @@ fn no_slots<'s>() -> &'s [Slot]
     &[]
 }
 
-/// Whether a slot is of a feature.
+/// Whether a slot is the slot of a given feature.
 fn is_of(slot: &Slot, feature: FeatureNo) -> bool
     ensures { result ≡ same_feature slot.now.feature feature }
 {
     slot.feature == feature
 }
 
-/// The index of the first slot of a feature.
+/// The index of the first slot of a feature; `None` if the feature has no slot.
 pub(crate) fn slot_index(slots: &[Slot], feature: FeatureNo) -> Option<usize>
     ensures { result ≡ position (λ s. same_feature s.feature feature) slots.now }
 {
     slots.iter().position(|slot| slot.feature == feature)
 }
 
-/// Changes the values of a feature in the only slot of a node. If the slot is of a different feature, nothing changes.
+/// Makes one change of `slot`, the only slot of a node, if it is the slot of `feature`. If it is the slot of a different feature, nothing
+/// changes.
 fn edit_one(slot: &mut Slot, feature: FeatureNo, edit: SlotEdit)
     requires places { slot_edit_capacity edit ≤ places_of (slot_in (slot.old ∷ []) feature) }
     requires can { CanEdit (mixed_of (slot_in (slot.old ∷ []) feature)) edit }
@@ -143,7 +145,7 @@ fn edit_one(slot: &mut Slot, feature: FeatureNo, edit: SlotEdit)
     }
 }
 
-/// Changes the values of a feature. If the feature has no slot, nothing changes.
+/// Changes the values of a feature, or takes back capacity that was reserved for them. If the feature has no slot, nothing changes.
 fn edit_slot(slots: &mut Vec<Slot>, feature: FeatureNo, edit: SlotEdit)
     requires places { slot_edit_capacity edit ≤ places_of (slot_in slots.old.items feature) }
     requires can { CanEdit (mixed_of (slot_in slots.old.items feature)) edit }
@@ -155,8 +157,8 @@ fn edit_slot(slots: &mut Vec<Slot>, feature: FeatureNo, edit: SlotEdit)
     }
 }
 
-/// Moves `slot`, the only slot of a node, into a list, and adds a new slot of `feature`, which is a different feature. Fails only if memory
-/// is refused, and then the slot stays where it is.
+/// Moves `slot`, the only slot of a node, into a new list, adds a slot for `feature` to the list, and returns the list. `slot` has to be of
+/// a feature other than `feature`. After the call `slot` is an empty slot. Fails only if memory is refused, and then `slot` stays as it is.
 fn with_new(alloc: Global, slot: &mut Slot, feature: FeatureNo) -> Result<Vec<Slot>, AllocError>
     ensures grown { IfOk result (λ v. AreSlotsGrown (slot.old ∷ []) v.items) }
     ensures ok { IfOk result (λ v. (slot_in v.items feature ≡ None) → ⊥) }
@@ -168,8 +170,8 @@ fn with_new(alloc: Global, slot: &mut Slot, feature: FeatureNo) -> Result<Vec<Sl
     Ok(slots)
 }
 
-/// Adds a slot. If there is no capacity for it, first reserves capacity for it and for half as many further slots as there are. Fails only
-/// if memory is refused, and then nothing has changed.
+/// Adds a slot. If there is no capacity for the slot, first reserves capacity for it and for further slots, half as many as the list has.
+/// Fails only if memory is refused, and then nothing has changed.
 fn push_slot(slots: &mut Vec<Slot>, slot: Slot) -> Result<(), AllocError>
     ensures { slots.new.items ≡ (if is_ok result then slots.old.items ++ slot ∷ [] else slots.old.items) }
 {
@@ -180,7 +182,7 @@ fn push_slot(slots: &mut Vec<Slot>, slot: Slot) -> Result<(), AllocError>
     Ok(())
 }
 
-/// Makes a slot for a feature, if the feature has none.
+/// Makes a slot for a feature, if the feature has none. Fails only if memory is refused; no value changes.
 fn add_slot(slots: &mut Vec<Slot>, feature: FeatureNo) -> Result<(), AllocError>
     ensures grown { AreSlotsGrown slots.old.items slots.new.items }
     ensures ok { OnOk result ((slot_in slots.new.items feature ≡ None) → ⊥) }
@@ -192,8 +194,8 @@ fn add_slot(slots: &mut Vec<Slot>, feature: FeatureNo) -> Result<(), AllocError>
     Ok(())
 }
 
-/// Reserves capacity for one more value in `slot`, the only slot of a node; it is the slot of `feature`. The capacity is for any value if
-/// `is_mixed`, otherwise for an object.
+/// Reserves capacity for one more value in `slot`, the only slot of a node; it has to be the slot of `feature`. The capacity is for any
+/// value if `is_mixed`, otherwise for an object. Fails only if memory is refused; no value changes.
 fn promise_one(
     slot: &mut Slot,
     alloc: Global,
@@ -212,7 +214,8 @@ fn promise_one(
     }
 }
 
-/// Reserves capacity for one more value in the slot of a feature: for any value if `is_mixed`, otherwise for an object.
+/// Reserves capacity for one more value in the slot of a feature. The feature has to have a slot. The capacity is for any value if
+/// `is_mixed`, otherwise for an object. Fails only if memory is refused; no value changes.
 fn promise_in(slots: &mut Vec<Slot>, feature: FeatureNo, is_mixed: bool) -> Result<(), AllocError>
     requires { (slot_in slots.old.items feature ≡ None) → ⊥ }
     ensures grown { AreSlotsGrown slots.old.items slots.new.items }

@@ -8,11 +8,13 @@ use mm_types::FeatureNo;
 use std::alloc::{AllocError, Global};
 use std::marker::Model;
 
-/// Rows, which are found by numbers. It may be that most objects of a model have no links. So a number with no row takes only four bytes if
-/// a higher number has a row, and no bytes otherwise. Contracts see both lists, and read them by `row_in`.
+/// The rows of the nodes of one kind, objects or resources. A row is found by the number of its node. It may be that most objects of a
+/// model have no links. So a node with no row takes only four bytes if a node with a higher number has a row. Otherwise the node takes no
+/// bytes, unless memory for a row was refused. Contracts see the lists `places` and `rows`, and read them by `row_in`.
 #[derive(Drop)]
 pub(crate) struct RowTable {
-    /// At each number: zero if the number has no row, and else one more than the index of its row.
+    /// At the index that is the number of a node: zero if the node has no row, and else one more than the index of the row in `rows`. A
+    /// node with a number past the end has no row.
     places: Vec<u32>,
     /// The rows, in the order in which they were made.
     rows: Vec<Row>,
@@ -40,21 +42,21 @@ impl RowTable {
         }
     }
 
-    /// The row of a number; `None` if the number has no row.
+    /// The row of the node with the given number; `None` if the node has no row.
     pub fn get(&self, number: usize) -> Option<&Row>
         ensures { option_copied result ≡ row_in self.now number }
     {
         self.rows.get(row_index_in(&self.places, number)?)
     }
 
-    /// The index of the row of a number; `None` if the number has no row.
+    /// The index of the row of the node with the given number; `None` if the node has no row.
     pub fn row_index(&self, number: usize) -> Option<usize>
         ensures { result ≡ row_index_at self.now.places number }
     {
         row_index_in(&self.places, number)
     }
 
-    /// Makes one change of the row of a number; the row is at the index `row_index`. Takes no memory.
+    /// Makes one change of the row of a node. `number` is the number of the node, and `row_index` the index of the row. Takes no memory.
     pub fn edit_at(&mut self, number: usize, row_index: usize, edit: RowEdit)
         requires at { row_index_at self.old.places number ≡ Some row_index }
         requires fits { RowFits edit (row_in self.old number) }
@@ -64,7 +66,8 @@ impl RowTable {
         self.rows[row_index].edit(edit);
     }
 
-    /// Sorts the ends with no opposite that have a node as a value, in the row of the node. Takes no memory.
+    /// Sorts the ends with no opposite that have a node as a value; `number` is the number of the node. If the node has no row, nothing
+    /// changes. Takes no memory.
     pub fn order_entries(&mut self, number: usize)
         ensures { AreRowsReordered (row_in self.old) (row_in self.new) }
     {
@@ -73,8 +76,8 @@ impl RowTable {
         }
     }
 
-    /// Reserves capacity for one more value of a feature in the row of a number: for any value if `is_mixed`, otherwise for an object.
-    /// Fails only if memory is refused; no value changes.
+    /// Reserves capacity for one more value of a feature of a node: for any value if `is_mixed`, otherwise for an object. `number` is the
+    /// number of the node, and `row_index` the index of its row. Fails only if memory is refused; no value changes.
     pub fn promise_at(
         &mut self,
         number: usize,
@@ -92,8 +95,8 @@ impl RowTable {
         self.rows[row_index].promise(alloc, feature, is_mixed)
     }
 
-    /// Reserves capacity for one more end with no opposite that has a node as a value, in the row of the node. Fails only if memory is
-    /// refused; no end changes.
+    /// Reserves capacity for one more end that has a node as a value and has no opposite. `number` is the number of the node, and
+    /// `row_index` the index of its row. Fails only if memory is refused; no end changes.
     pub fn promise_entry_at(&mut self, number: usize, row_index: usize) -> Result<(), AllocError>
         requires at { row_index_at self.old.places number ≡ Some row_index }
         ensures grown { AreRowsGrown (row_in self.old) (row_in self.new) }
@@ -104,7 +107,8 @@ impl RowTable {
         self.rows[row_index].promise_entry(alloc)
     }
 
-    /// The index of the row of a number. If the number has no row, makes the row. The indexes of the other rows stay the same.
+    /// The index of the row of the node with the given number. If the node has no row, makes the row. The indexes of the other rows stay
+    /// the same. Fails only if memory is refused, or if there are 2^32 - 1 rows already.
     pub fn make_row(&mut self, number: usize) -> Result<usize, AllocError>
         ensures grown { AreRowsGrown (row_in self.old) (row_in self.new) }
         ensures unmoved { (n k : ℕ) → row_index_at self.old.places n ≡ Some k → row_index_at self.new.places n ≡ Some k }
@@ -117,8 +121,8 @@ impl RowTable {
         }
     }
 
-    /// Makes a row for a number that has none, and returns the index of the row. The row is made before its index is stored. So if memory
-    /// is refused, no index is stored without its row.
+    /// Makes a row for the node with the given number, and returns the index of the row. The node must not have a row yet. The row is made
+    /// before its index is stored. So if memory is refused, no index is stored without its row.
     fn push_row(&mut self, number: usize) -> Result<usize, AllocError>
         requires in_range { number < length self.old.places }
         requires none { row_index_at self.old.places number ≡ None }
@@ -136,7 +140,7 @@ impl RowTable {
     }
 }
 
-/// The index of the row of a number; `None` if the number has no row.
+/// The index of the row of the node with the given number; `None` if the node has no row.
 fn row_index_in(places: &[u32], number: usize) -> Option<usize>
     ensures { result ≡ row_index_at places.now number }
 {
@@ -146,7 +150,7 @@ fn row_index_in(places: &[u32], number: usize) -> Option<usize>
     }
 }
 
-/// Makes an entry for each number up to the given number. No number gets a row.
+/// Adds zeros at the end of `places` until there is an element at the index `number`. No node gets a row.
 fn extend(places: &mut Vec<u32>, number: usize) -> Result<(), AllocError>
     ensures same { (n : ℕ) → row_index_at places.new.items n ≡ row_index_at places.old.items n }
     ensures ok { OnOk result (number < vec_len places.new) }

@@ -18,11 +18,11 @@ pub struct Pairing {
     pub container: Option<FeatureNo>,
 }
 
-/// One change of the values of an end.
+/// One change of the values of an end, or of the capacity that is reserved for them.
 #[derive(Drop)]
 pub enum SlotEdit {
     /// Inserts a value at an index; if the index is past the last value, the value is put last. If the value is an object, `pairing` has
-    /// the opposite and the containing feature of the end's feature.
+    /// the opposite and the containing feature of the end's feature. If `pairing` is `None`, the pairing of the slot stays as it is.
     Insert {
         index: usize,
         value: Value,
@@ -43,7 +43,7 @@ pub enum SlotEdit {
         to: usize,
         from: usize,
     },
-    /// Takes back reserved capacity for `places` values. No value changes.
+    /// Takes back reserved capacity for `places` values. No value changes, and no memory is freed.
     Forget {
         places: usize,
     },
@@ -53,7 +53,7 @@ pub enum SlotEdit {
 #[derive(Drop)]
 pub struct Slot {
     pub feature: FeatureNo,
-    /// The opposite and the containing feature, as the last put of an object gave them; neither of them if no object was put.
+    /// The opposite and the containing feature of `feature`, as the last put of an object gave them; both `None` if no object was put.
     pub pairing: Pairing,
     pub values: EndValueList,
     /// The number of further values for which capacity is reserved in `values`.
@@ -61,7 +61,7 @@ pub struct Slot {
 }
 
 impl Slot {
-    /// The slot of a feature with no values. Takes no memory.
+    /// A slot for a feature, with no values. Takes no memory.
     pub fn new(feature: FeatureNo) -> Self
         ensures feature { result.feature ≡ feature }
         ensures values { result.values.items ≡ [] }
@@ -105,8 +105,8 @@ impl Slot {
         Ok(())
     }
 
-    /// Makes one change, for which `promise` reserved capacity. Takes no memory. A value that is put in is an object, unless capacity was
-    /// reserved for any value.
+    /// Makes one change. If the change adds a value, `promise` must have reserved capacity for it. The value must be an object, unless
+    /// capacity was reserved for any value. A change must not take back more capacity than is reserved. Takes no memory.
     pub fn edit(&mut self, edit: SlotEdit)
         requires places { slot_edit_capacity edit ≤ slot_places self.old }
         requires can { CanEdit self.old.values.mixed edit }
@@ -134,8 +134,8 @@ impl Slot {
     }
 }
 
-/// Reserves capacity for `places` values, and for values other than objects if `is_mixed`. Fails only if memory is refused; no value
-/// changes.
+/// Makes sure that there is capacity for `places` more values; if `is_mixed`, these may be values other than objects. Fails only if memory
+/// is refused; no value changes.
 fn make_places(
     values: &mut EndValueList,
     alloc: Global,
@@ -154,7 +154,7 @@ fn make_places(
     values.reserve(alloc, places)
 }
 
-/// Inserts a value at an index; if the index is past the last value, the value is put last. There is capacity for the value.
+/// Inserts a value at an index; if the index is past the last value, the value is put last. There has to be capacity for the value.
 #[inline(always)]
 fn insert_in(values: &mut EndValueList, index: usize, value: Value)
     requires room { 1 ≤ values.old.spare }
@@ -166,7 +166,7 @@ fn insert_in(values: &mut EndValueList, index: usize, value: Value)
     values.insert(index.min(values.len()), value);
 }
 
-/// Inserts a value after the last value. There is capacity for the value.
+/// Inserts a value after the last value. There has to be capacity for the value.
 fn push_in(values: &mut EndValueList, value: Value)
     requires room { 1 ≤ values.old.spare }
     requires can { CanHave values.old.mixed value }

@@ -1,5 +1,5 @@
--- The attached adapters in attach order, each with its targets: which adapters get a notification, and what the adapters are after a chain
--- is delivered.
+-- The attached adapters in attach order, each with its targets and its view; which adapters get a notification; and the adapters with their
+-- views after a chain is delivered.
 use Rattle.std.specs.Prelude.{ℕ, ◌+◌, ◌<◌, Bool, ◌&&◌, ◌||◌, nat_eq, nat_lt, nat_le, List, [], ◌∷◌, ◌++◌, map, filter, length, ◌^◌, Option, if◌then◌else◌, All, sum_by}
 use Rattle.std.specs.List.{IsDistinct, list_any, find}
 use Rattle.mm_types.specs.declared.numbers.AdapterNo.{AdapterNo}
@@ -9,13 +9,13 @@ use Rattle.notice_chain.specs.View.{View, hear_all}
 use Rattle.notice_chain.specs.declared.notice.Notice.{Notice}
 use Rattle.notice_chain.specs.declared.target.Target.{Target}
 
--- one attached adapter, with its targets in the order in which it got them
+-- one attached adapter: its number, its targets in the order in which it got them, and its view
 pub record Listed : Type 0 where
   pub no : AdapterNo
   pub targets : List Target
   pub view : View
 
--- whether two numbers are the same
+-- whether two numbers of adapters are the same
 abbrev pub same_no : AdapterNo → AdapterNo → Bool
 same_no x y = nat_eq x.0 y.0
 
@@ -32,11 +32,11 @@ has_target x r = list_any (is_at x) r.targets
 abbrev pub HasDistinctNumbers : List Listed → Type 0
 HasDistinctNumbers rs = IsDistinct same_no (map (λ r. r.no) rs)
 
--- no adapter has a target twice
+-- no adapter has a node as a target twice
 abbrev pub HasDistinctTargets : List Listed → Type 0
 HasDistinctTargets rs = All (λ r. IsDistinct same_node (map (λ t. t.node) r.targets)) rs
 
--- each adapter has a target
+-- each adapter has at least one target
 abbrev pub HaveTargets : List Listed → Type 0
 HaveTargets rs = All (λ r. 0 < length r.targets) rs
 
@@ -71,7 +71,8 @@ adapters_after_watch number t rs = with_changed number (with_target t) rs
 abbrev pub Above : Type 0
 Above = Node → List Node
 
--- whether a target notifies its adapter of changes at a node: the target is the node, or the target is deep and the node is below it
+-- whether a target notifies its adapter of changes at a node: the target is the node, or the target is deep and the node is below the
+-- target
 abbrev pub brings_in : Above → Node → Target → Bool
 brings_in up x t = same_node t.node x || (t.deep && list_any (same_node t.node) (up x))
 
@@ -92,11 +93,11 @@ audience up n rs = filter (λ r. hears up r n) rs
 abbrev pub audience_numbers : Above → Notice → List Listed → List AdapterNo
 audience_numbers up n rs = map (λ r. r.no) (audience up n rs)
 
--- the adapter after some notifications
+-- an adapter after it got some notifications, one after another
 abbrev pub adapter_after_notices : Listed → List Notice → Listed
 adapter_after_notices r ns = record { no = r.no; targets = r.targets; view = hear_all r.view ns }
 
--- the adapters after a chain is delivered: each adapter has got the notifications of the chain that are for it, whatever the other adapters
+-- the adapters after a chain is delivered: each adapter has got its notifications of the chain (`heard_of`), whatever the other adapters
 -- get
 abbrev pub tell_chain : Above → List Notice → List Listed → List Listed
 tell_chain up ns rs = map (λ r. adapter_after_notices r (heard_of up ns r)) rs
@@ -105,15 +106,15 @@ tell_chain up ns rs = map (λ r. adapter_after_notices r (heard_of up ns r)) rs
 abbrev pub told_of : Above → Notice → List Listed → List (AdapterNo × Notice)
 told_of up n rs = map (λ r. (r.no, n)) (audience up n rs)
 
--- which adapter is notified of what: for each notification of the chain, in order, the adapters that get it, in attach order
+-- which adapter is notified of what: for each notification of the chain, in order, the numbers of the adapters that get it, in attach order
 abbrev pub told_list : Above → List Notice → List Listed → List (AdapterNo × Notice)
 told_list up [] rs = []
 told_list up (n ∷ ns) rs = told_of up n rs ++ told_list up ns rs
 
 ----------------------------------------------------------------- full adapters
 
--- whether an adapter with t targets is too full for k notifications: k is above 0, and a u64 can't count k more notifications and then one
--- for each target
+-- whether an adapter with t targets is too full for k notifications: k is above 0, and the adapter, whose count is a u64, can't count k
+-- more notifications and then a last notification from each target
 abbrev pub is_full : ℕ → ℕ → View → Bool
 is_full k t v = nat_lt 0 k && nat_le (2 ^ 64) (v.told + (k + t))
 

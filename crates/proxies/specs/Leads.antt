@@ -23,7 +23,8 @@ leads r = map (lead r) (sites r)
 abbrev pub is_by : ReferenceKey → Lead → Bool
 is_by k x = option_map_or (λ o. same_reference_key (reference_key x.site.object x.site.feature o.0) k) x.object false
 
--- the index of the first proxy that is at the reference of a key, and that has the object of the key at its address
+-- for the first lead of a list that has the key k (`is_by`): the index of its proxy in the proxy's reference. None if no lead of the list
+-- has this key
 abbrev pub first_index : List Lead → ReferenceKey → Option ℕ
 first_index [] k = None
 first_index (x ∷ xs) k = if is_by k x then Some x.site.index else first_index xs k

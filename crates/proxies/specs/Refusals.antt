@@ -20,7 +20,7 @@ is_mistyped r e q = not (shape_at r e).is_reference || option_map_or (λ x. not 
 abbrev pub is_there_already : Reading → End → Option ResolvedProxy → Bool
 is_there_already r e q = option_map_or (λ x. has_value (r.values e) (value.Object x.object)) q false
 
--- why the proxy at index i of the end e can't be resolved; q is the target of the proxy, if it has one
+-- why the proxy at index i of the end e can't be resolved; q is the target of the proxy, if it has one. None if the proxy can be resolved
 abbrev pub target_refusal : Reading → End → ℕ → Option ResolvedProxy → Option Refused
 target_refusal r e i q =
     WrongType where_so is_mistyped r e q else_by

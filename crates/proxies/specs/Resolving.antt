@@ -14,7 +14,7 @@ use Rattle.fragment_paths.specs.Finding.{at}
 use Rattle.proxies.specs.declared.resolved_proxy.Counterpart.{Counterpart}
 use Rattle.proxies.specs.declared.resolved_proxy.ResolvedProxy.{ResolvedProxy}
 
--- the opposite end of a link between e and an object; none if the feature of e has no opposite
+-- the opposite end of a link between the end e and an object; none if the feature of e has no opposite
 abbrev pub opposite_end : Reading → End → ObjectNo → Option End
 opposite_end r e o = option_map (far_end o) (shape_at r e).opposite
 
@@ -26,21 +26,22 @@ proxy_at r e i = option_and_then text_of (slice_get (r.values e) i)
 abbrev pub leads_to : Reading → Node → Value → Bool
 leads_to r n v = option_map_or (λ o. same_node (node.Object o) n) (option_and_then (at r) (text_of v)) false
 
--- the first proxy at the end d that has the node n at its address
+-- the first proxy at the end d that has the node n at its address; none if there is no such proxy
 abbrev pub first_to : Reading → Node → End → Option Counterpart
 first_to r n d = option_map (λ j. record { end = d; index = j }) (position (leads_to r n) (r.values d))
 
--- at the opposite end of a link between e and the object o, the first proxy that has the node of e at its address
+-- at the opposite end of a link between the end e and the object o, the first proxy that has the node of e at its address
 abbrev pub counterpart : Reading → End → ObjectNo → Option Counterpart
 counterpart r e o = option_and_then (first_to r e.node) (opposite_end r e o)
 
 abbrev pub target : Reading → End → ObjectNo → ResolvedProxy
 target r e o = record { object = o; counterpart = counterpart r e o }
 
--- the target of the proxy at an index; none if no proxy is there, or no object is at the proxy's address
+-- the target of the proxy at index i of the end e; none if no proxy is there, or no object is at the proxy's address
 abbrev pub target_at : Reading → End → ℕ → Option ResolvedProxy
 target_at r e i = option_map (target r e) (option_and_then (at r) (proxy_at r e i))
 
--- whether the reference has an opposite, and no proxy at the opposite end has the referring object at its address
+-- whether the reference of a proxy has an opposite, and no proxy at the opposite end has the referring object at its address; e is the end
+-- of the proxy, and x is its target
 abbrev pub is_unmatched : Reading → End → ResolvedProxy → Bool
 is_unmatched r e x = is_some (shape_at r e).opposite && not (is_some x.counterpart)

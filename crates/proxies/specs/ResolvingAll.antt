@@ -13,12 +13,12 @@ use Rattle.proxies.specs.Resolving.{target_at}
 use Rattle.proxies.specs.declared.site.ProxySite.{ProxySite}
 use Rattle.proxies.specs.declared.resolved_proxy.ResolvedProxy.{ResolvedProxy}
 
--- what ends hold after the value at an index of end e is replaced
+-- the values of each end after v replaces the value at index i of the end e
 abbrev pub ends_after_replace : (End → List Value) → End → ℕ → Value → End → List Value
 ends_after_replace ends e i v d = if same_end e d then slice_set (ends d) i v else ends d
 
--- what ends hold after a proxy is resolved: the object at the address of the proxy replaces the proxy; if the proxy has a counterpart, the
--- referring object replaces the counterpart at the opposite end
+-- the values of each end after the proxy at index i of the end e is resolved: the object at the address of the proxy replaces the proxy; if
+-- the proxy has a counterpart, the referring object replaces the counterpart at the opposite end. x is the target of the proxy
 abbrev pub values_with : Reading → End → ℕ → ResolvedProxy → End → List Value
 values_with r e i x =
     ends_after_replace (option_map_or (λ c. ends_after_replace r.values c.end c.index (node_value e.node)) x.counterpart r.values) e i (value.Object x.object)
@@ -31,13 +31,14 @@ with_resolved r p x = record r { values = values_with r (end_of p) p.index x }
 abbrev pub resolved_to : Reading → ProxySite → Option ResolvedProxy
 resolved_to r p = if is_some (resolve_refusal r (end_of p) p.index) then None else target_at r (end_of p) p.index
 
--- a proxy that is resolved: the model in which it is resolved, its location, and its target
+-- one resolve of a proxy: the reading before the resolve, the location of the proxy, and its target
 pub record Resolution : Type 0 where
   pub reads : Reading
   pub site : ProxySite
   pub target : ResolvedProxy
 
--- the resolutions of the proxies at some locations, in the order of the locations; there is none for a proxy whose resolve is refused
+-- the resolutions of the proxies at some locations, which are resolved one after another in the order of the locations; there is none for a
+-- proxy whose resolve is refused
 abbrev pub resolutions : Reading → List ProxySite → List Resolution
 resolutions r [] = []
 resolutions r (p ∷ ps) =
@@ -56,7 +57,8 @@ left_by r ps = record r { values = values_left r ps }
 abbrev pub all_resolved : Reading → Reading
 all_resolved r = left_by r (sites r)
 
--- how many proxies are resolved; two proxies of one link count as one. And `unresolved_count`: how many proxies remain
+-- how many proxies are resolved if all are to be resolved; two proxies of one link count as one. And `unresolved_count`: how many proxies
+-- remain, counting each
 abbrev pub resolved_count : Reading → ℕ
 resolved_count r = length (resolutions r (sites r))
 

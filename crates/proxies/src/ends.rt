@@ -18,7 +18,7 @@ pub fn far_end(object: ObjectNo, feature: FeatureNo) -> End
     }
 }
 
-/// The opposite end of a link between an end and an object; `None` if the feature of `end` has no opposite.
+/// The opposite end of a link between `end` and `object`; `None` if the feature of `end` has no opposite.
 pub fn opposite_end<L: LinkStore>(model: &ModelRef<L>, end: End, object: ObjectNo) -> Option<End>
     ensures { result ≡ resolving.opposite_end (reading model.now) end object }
 {

@@ -21,7 +21,7 @@ pub struct Lead {
     pub object: Option<ObjectNo>,
 }
 
-/// The `Lead`s of all proxies, in the order in which a resolve of all proxies takes them. Fails only if memory is refused.
+/// The `Lead`s of all proxies, in the order in which a resolve of all proxies tries them. Fails only if memory is refused.
 pub fn leads<L: LinkStore>(alloc: Global, model: &ModelRef<L>) -> Result<Vec<Lead>, AllocError>
     ensures { IfOk result (λ ls. ls.items ≡ spec.leads (reading model.now)) }
 {

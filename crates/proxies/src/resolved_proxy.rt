@@ -1,7 +1,8 @@
 //! What resolving a proxy finds.
 use mm_types::{End, ObjectNo};
 
-/// The object at the address of a proxy, and the proxy of the same link at the opposite end, if there is one.
+/// The target of a proxy: the object at the proxy's address, and the counterpart of the proxy, if it has one. The counterpart is the proxy
+/// of the same link at the opposite end.
 #[derive(Clone, Copy)]
 pub struct ResolvedProxy {
     pub object: ObjectNo,

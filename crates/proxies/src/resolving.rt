@@ -21,8 +21,8 @@ use models::ModelRef;
 use std::alloc::{AllocError, Global};
 use web_uris::split_address;
 
-/// The target of the proxy at an index of an end: the object at the proxy's address, and the proxy of the same link at the opposite end.
-/// `None` if no proxy is at the index, or no object is at its address. Fails only if memory is refused.
+/// The target of the proxy at an index of an end: the object at the proxy's address, and the proxy of the same link at the opposite end, if
+/// there is one. `None` if no proxy is at the index, or no object is at the proxy's address. Fails only if memory is refused.
 pub fn target_at<L: LinkStore>(
     alloc: Global,
     model: &ModelRef<L>,
@@ -96,8 +96,9 @@ fn leads_to<L: LinkStore>(
     }
 }
 
-/// Why the proxy at an index can't be resolved; `target` is what `target_at` found for the proxy. Returns the first of these refusals that
-/// applies: `WrongType`, `Index`, `Duplicate`, `NotProxy`, `Unloaded`, `Unresolved` or `Unmatched`. Takes no memory.
+/// Why the proxy at an index of `end` can't be resolved; `target` is what `target_at` found for the proxy. Returns the first of these
+/// refusals that applies: `WrongType`, `Index`, `Duplicate`, `NotProxy`, `Unloaded`, `Unresolved` or `Unmatched`; `None` if the proxy can
+/// be resolved. Takes no memory.
 pub fn resolve_refusal<L: LinkStore>(
     model: &ModelRef<L>,
     end: End,
@@ -173,9 +174,10 @@ fn uri_of(text: &str) -> &str
     }
 }
 
-/// Why a proxy can't be resolved, without the refusals that `resolve_refusal` tests before: `Unloaded` if no resource has the URI in the
-/// proxy's text, `Unresolved` if no object is at the proxy's address, `Unmatched` if the proxy needs a counterpart and has none
-/// (`is_unmatched`).
+/// Why the proxy with the text `text` can't be resolved. `resolve_refusal` calls this function after it has tested for its other refusals
+/// and found none. Returns the first refusal that applies: `Unloaded` if no resource has the URI in the proxy's text, `Unresolved` if no
+/// object is at the proxy's address, `Unmatched` if the proxy needs a counterpart and has none (`is_unmatched`); `None` if the proxy can be
+/// resolved.
 fn lost_refusal<L: LinkStore>(
     model: &ModelRef<L>,
     end: End,
@@ -194,7 +196,8 @@ fn lost_refusal<L: LinkStore>(
     }
 }
 
-/// Whether the reference has an opposite, and no proxy at the opposite end has the referring object at its address.
+/// Whether the reference of a proxy has an opposite, and no proxy at the opposite end has the referring object at its address. `end` is the
+/// end of the proxy, and `target` its target.
 pub fn is_unmatched<L: LinkStore>(model: &ModelRef<L>, end: End, target: ResolvedProxy) -> bool
     ensures { result ≡ resolving.is_unmatched (reading model.now) end target }
 {

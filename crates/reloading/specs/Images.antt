@@ -1,5 +1,6 @@
--- The images of saved objects after a load of the saved document: each saved object has an image under a new number, with the same
--- contents. In these contents, objects of other resources have become proxies.
+-- The images of saved objects after a load of the saved document: each saved object has an image, a new object with a new number. The image
+-- has the same class and the same flags as the saved object. It has the same values too, with two exceptions: an object of the same
+-- resource is replaced by the image of this object, and an object of a different resource is replaced by a proxy.
 use Rattle.std.specs.Prelude.{◌≡◌, ◌≤◌, ◌<◌, ◌+◌, ℕ, Some, length, map, slice_get}
 use Rattle.mm_types.specs.declared.numbers.FeatureNo.{FeatureNo}
 use Rattle.mm_types.specs.declared.numbers.Node.TheVariants as node
@@ -13,7 +14,7 @@ use Rattle.doc_writer.specs.Written.{objects_in}
 use Rattle.doc_loader.specs.Loading.{loaded_number, loaded_value}
 use Rattle.round_trip.specs.Copied.{renamed_value, root_copied}
 
--- the image of an object of resource k, if the first object of the document gets the number n
+-- the image of an object of resource k of r, if the first object of the document gets the number n
 abbrev pub image : Reading → ResourceNo → ℕ → ObjectNo → ObjectNo
 image r k n o = loaded_number n (root_copied (objects_in r k) o)
 

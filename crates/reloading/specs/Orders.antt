@@ -30,7 +30,7 @@ is_same k j = nat_eq k.0 j.0
 abbrev pub has : List ResourceNo → ResourceNo → Bool
 has ks k = list_any (is_same k) ks
 
--- a resource of r that is not made yet; and `IsFilling`, a resource that is made and not filled yet
+-- k is a resource of r that is not made yet; and `IsFilling`: k is a resource that is made, and not filled yet
 pub record IsMaking (r : Reading) (made : List ResourceNo) (k : ResourceNo) : Type 0 where
   pub there : has_resource r k ≡ true
   pub new : has made k ≡ false
@@ -39,8 +39,8 @@ pub record IsFilling (made filled : List ResourceNo) (k : ResourceNo) : Type 0 w
   pub there : has made k ≡ true
   pub new : has filled k ≡ false
 
--- the tasks make each resource that is not made yet, and fill each resource that is not filled yet, each once; a resource is made before it
--- is filled
+-- `made` has the resources that are made already, and `filled` those that are filled already. The tasks make each resource of r that is not
+-- made yet, and fill each resource of r that is not filled yet, each once. They fill no resource before the resource is made
 abbrev pub IsOrder : Reading → List ResourceNo → List ResourceNo → List Task → Type 0
 IsOrder r made filled [] = (k : ResourceNo) → has_resource r k ≡ true → has filled k ≡ true
 IsOrder r made filled (Make k ∷ ts) = IsMaking r made k × IsOrder r (made ++ k ∷ []) filled ts
@@ -75,19 +75,20 @@ abbrev pub AreAllowed : Model → List Change → Type 0
 AreAllowed t [] = Unit {0}
 AreAllowed t (c ∷ cs) = IsAllowed t c × AreAllowed (model_after t c) cs
 
--- each resource can be saved, no text of a reference is too long, and no end has a proxy
+-- each resource of r can be saved, no text of a reference is longer than TEXT_BYTES, and no end has a proxy
 pub record IsSaved (r : Reading) : Type 0 where
   pub allowed : (k : ResourceNo) → has_resource r k ≡ true → save_refusal r k ≡ None
   pub short : (k : ResourceNo) (o : ObjectNo) → has_resource r k ≡ true → Refers r k o → length (reference_text r k o) ≤ TEXT_BYTES
   pub resolved : HasNoProxy r
 
--- in an empty model of the metamodel the changes of the tasks are not refused; the model after them is legal, and a partly resolved copy of
--- the saved model
+-- in an empty model of the metamodel of s the changes of the tasks are not refused; the model after these changes is legal, and a partly
+-- resolved copy of s
 pub record AreLoads (s : Model) (ts : List Task) : Type 0 where
   pub allowed : AreAllowed (empty_model s.metamodel) (changes (reading s) [] ts)
   pub legal : IsLegal (after_all (empty_model s.metamodel) (changes (reading s) [] ts))
   pub between : Between (reading s) (reading (after_all (empty_model s.metamodel) (changes (reading s) [] ts)))
 
--- if s is legal and saved (`IsSaved`) and its URIs are normalised, `AreLoads` holds for the tasks in any order
+-- if s is legal, its URIs are normalised, and `IsSaved` holds for it, then `AreLoads` holds for each list of tasks in an allowed order
+-- (`IsOrder`)
 abbrev pub LoadsGiveBetween : Model → Type 0
 LoadsGiveBetween s = IsLegal s → HasSteadyTexts s → IsSaved (reading s) → (ts : List Task) → IsOrder (reading s) [] [] ts → AreLoads s ts

@@ -25,14 +25,14 @@ AreResolves t (c ∷ cs) = ⊥
 abbrev pub reloaded_model : Model → List Task → Model
 reloaded_model s ts = after_all (empty_model s.metamodel) (changes (reading s) [] ts)
 
--- neither the loads nor the resolves are refused, and the model after them is isomorphic to the saved one
+-- neither the tasks ts nor the resolves cs are refused, and the model after them is isomorphic to s
 pub record IsHadAgain (s : Model) (ts : List Task) (cs : List Change) : Type 0 where
   pub loads : AreAllowed (empty_model s.metamodel) (changes (reading s) [] ts)
   pub resolves : AreAllowed (reloaded_model s ts) cs
   pub alike : Alike (reading s) (reading (after_all (reloaded_model s ts) cs))
 
--- after the loads in some order: there is a list of resolves that leaves no proxy; after each list of resolves that leaves no proxy, the
--- model is isomorphic to the saved one; after one resolve of all proxies, it is isomorphic to the saved one too
+-- in the model after the tasks ts: there is a list of resolves that leaves no proxy; each list of resolves that leaves no proxy is not
+-- refused, and gives a model isomorphic to s; one resolve of all proxies leaves no proxy, and gives a model isomorphic to s too
 pub record IsReloaded (s : Model) (ts : List Task) : Type 0 where
   pub some : (cs : List Change) × AreResolves (reloaded_model s ts) cs
   pub had : (cs : List Change) → AreResolves (reloaded_model s ts) cs → IsHadAgain s ts cs

@@ -22,8 +22,8 @@ pub fn an_address_is_of_one_object()
     ensures { (s : Model) → IsLegal s → HasOwnAddresses (reading s) }
 {}
 
-/// If a resolve of a proxy of a legal model is not refused, it changes no object's address. If a load of a document that was read is not
-/// refused, each object that has an address keeps this address.
+/// Take a legal model. If a resolve of a proxy is not refused, the resolve changes no object's address. If a load of a document that was
+/// read is not refused, each object that had an address before the load keeps this address.
 pub fn resolves_and_loads_keep_addresses()
     ensures resolves { (s : Model) (o : ObjectNo) (f : FeatureNo) (i : ℕ) → ResolvesKeepAddresses s o f i }
     ensures loads { (s : Model) (k : ResourceNo) (doc : Doc) → LoadsKeepAddresses s k doc }
@@ -32,29 +32,31 @@ pub fn resolves_and_loads_keep_addresses()
 /// Take a legal model whose URIs are normalised, and one of its resources that can be saved and read back (`IsReadable`). Let the document
 /// of this resource be loaded into a legal model of the same metamodel, and let the load not be refused. Then the load makes each saved
 /// object anew, with its class, its flags, its container and the values of its ends. The new objects get the next numbers. If a value was
-/// an object of a different resource, the new value is a proxy with the address of that object. Each new object is in the resource of the
-/// load. It has the address of the saved object if both resources have the same URI (EMF: XMLResource.save, XMLResource.load).
+/// an object of the same resource, the new value is the object that was made for it. If a value was an object of a different resource, the
+/// new value is a proxy with the address of that object. Any other value is as it was. Each new object is in the resource of the load. If
+/// this resource has the same URI as the saved resource, each new object has the address of its saved object (EMF: XMLResource.save,
+/// XMLResource.load).
 pub fn what_was_saved_is_loaded_as_it_was()
     ensures { (s : Model) (w : ValuesState) (b : Links) → LoadsSaved s w b }
 {}
 
 /// Take a legal model of this kind: it has no proxies; its URIs are normalised; all its resources can be saved; and no text of a reference
-/// is longer than 65,535 bytes. Make its resources in an empty model of the same metamodel, and load their documents, in any order in which
-/// no resource is loaded before it is made. These changes can be refused only for lack of memory, and the model after them is a partly
-/// resolved copy of the saved model.
+/// is longer than 65,535 bytes. Make each of its resources once in an empty model of the same metamodel, and load each of their documents
+/// once, in any order in which no resource is loaded before the resource is made. These changes can be refused only for lack of memory, and
+/// the model after them is legal, and a partly resolved copy of the saved model.
 pub fn loads_in_any_order_give_what_stands_between()
     ensures { (s : Model) → LoadsGiveBetween s }
 {}
 
 /// Take a legal model without proxies, and a legal, partly resolved copy of it. The resolve of a proxy of the copy can be refused only for
-/// lack of memory. After the resolve, the copy is still partly resolved, and has one proxy fewer, or two fewer if the reference of the
-/// proxy has an opposite.
+/// lack of memory. After the resolve, the copy is still a partly resolved copy of the model, and has one proxy fewer, or two fewer if the
+/// reference of the proxy has an opposite.
 pub fn resolving_stays_between()
     ensures { (s : Model) (w : ValuesState) (b : Links) → ResolvesBetween s w b }
 {}
 
-/// Take a legal model without proxies, and a legal, partly resolved copy of it. After a resolve of all proxies of the copy no proxy is
-/// left, and the copy is isomorphic to the saved model.
+/// Take a legal model without proxies, and a legal, partly resolved copy of it. After a resolve of all proxies of the copy no proxy is left
+/// in the copy, and the copy is isomorphic to the model.
 pub fn resolving_all_leaves_no_proxy()
     ensures { (s : Model) (w : ValuesState) (b : Links) → ResolvesAll s w b }
 {}
@@ -70,10 +72,11 @@ pub fn without_proxies_models_between_are_alike()
 {}
 
 /// Take a legal model of this kind: it has no proxies; its URIs are normalised; all its resources can be saved; and no text of a reference
-/// is longer than 65,535 bytes. Make its resources in an empty model of the same metamodel, and load their documents, in any order in which
-/// no resource is loaded before it is made. Then resolve proxies one by one in any order, until none is left. These changes can be refused
-/// only for lack of memory, and the model after them is isomorphic to the saved one. There is a list of resolves that leaves no proxy. A
-/// resolve of all proxies leaves none either, and gives an isomorphic model too.
+/// is longer than 65,535 bytes. Make each of its resources once in an empty model of the same metamodel, and load each of their documents
+/// once, in any order in which no resource is loaded before the resource is made. Then resolve proxies one by one in any order, until none
+/// is left. These changes can be refused only for lack of memory, and the model after them is isomorphic to the saved one. There is a list
+/// of resolves that leaves no proxy. One resolve of all proxies, in place of this list, leaves no proxy either, and the model after it is
+/// isomorphic to the saved one too.
 pub fn what_was_saved_is_had_again_in_any_order()
     ensures { (s : Model) → ReloadsInAnyOrder s }
 {}

@@ -122,9 +122,6 @@ module _ (p : Value → Bool) (o : ObjectNo) where
   abbrev pub place_left : List Value → ℕ
   place_left vs = index_in (filter (λ v. not (p v)) vs) (value.Object o)
 
-  left-none : (vs : List Value) → vs ≡ [] → place_left vs ≡ 0
-  left-none vs none = ap place_left none
-
   left-lost : (v : Value) (vs : List Value) → p v ≡ true → place_left (v ∷ vs) ≡ place_left vs
   left-lost v vs h = ap (λ (b : Bool). index_in (cond (not b) (v ∷ filter (λ w. not (p w)) vs) (filter (λ w. not (p w)) vs)) (value.Object o)) h
 
@@ -151,9 +148,6 @@ module _ (p : Value → Bool) (o : ObjectNo) where
       let rest = drop (i + 1) vs in
       let none : place_left (drop i vs) ≡ 0 = left-here vs i (value.Object o) at ∙ left-kept (value.Object o) rest h ∙ ap (λ (b : Bool). cond b 0 (suc (place_left rest))) (eq-eqb o.0 o.0 refl) in
       omega (arith, none, whole)
-
-  pub left-end : (vs : List Value) (i k all : ℕ) → length vs ≤ i → k + place_left (drop i vs) ≡ all → k ≡ all
-  left-end vs i k all past whole = let none : place_left (drop i vs) ≡ 0 = left-none (drop i vs) (drop_all i vs past) in omega (arith, none, whole)
 
 -- an object is a value if it was read from it
 pub same-read : (o : ObjectNo) (v : Value) (q : Option ObjectNo) → q ≡ object_of v → same_value (value.Object o) v ≡ option_map_or (same_object o) q false

@@ -157,10 +157,6 @@ has_end-at f (n ∷ ns) e =
     by false true c = refl
     by false false c = refl
 
-resource-past : (a n k : ℕ) → k < a → has_node (map resource_node (range_with_len a n)) (resource_node k) ≡ false
-resource-past a zero k low = refl
-resource-past a (suc n) k low = let other : nat_eq a k ≡ false = grind (arith, nat_tests) in (λ i. other i || resource-past (a + 1) n k (omega (arith, low)) i)
-
 resource-there : (a n k : ℕ) → a ≤ k → k < a + n → has_node (map resource_node (range_with_len a n)) (resource_node k) ≡ true
 resource-there a zero k low high = absurd (omega (arith, low, high))
 resource-there a (suc n) k low high =

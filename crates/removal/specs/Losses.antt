@@ -42,6 +42,6 @@ values_kept r o e = filter (λ v. not (is_lost r o e v)) (r.values e)
 abbrev pub last_loss : Reading → ObjectNo → List Loss
 last_loss r o = option_map_or (λ e. loss e (value.Object o) (index_in (values_kept r o e) (value.Object o)) ∷ []) (r.holder (node.Object o)) []
 
--- the losses in order: by feature number, by the number of the end's node, by position; the object itself last
+-- the losses in order: by feature number, then by the number of the end's node, then by position; the loss of o itself comes last
 abbrev pub losses : Reading → ObjectNo → List Loss
 losses r o = flat_map (losses_at r o) (touched_ends r o) ++ last_loss r o

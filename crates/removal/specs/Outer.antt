@@ -13,7 +13,7 @@ use Rattle.links.specs.Laws.{goes}
 use Rattle.models.specs.Reading.{Reading, at_end, shape_at, object_node, resource_node}
 use Rattle.containment.specs.Forest.{is_node_among, subtree}
 
--- whether a node is destroyed with an object: it is that object, or is below it
+-- whether a node is destroyed with an object: the node is that object, or is below that object
 abbrev pub is_in_subtree : Reading → ObjectNo → Node → Bool
 is_in_subtree r o = is_node_among (subtree r o)
 
@@ -32,10 +32,10 @@ ends_of r is_gone k = let f : FeatureNo = record { 0 = k } in map (λ n. at_end 
 abbrev pub outer_ends : Reading → (Node → Bool) → List End
 outer_ends r is_gone = flat_map (ends_of r is_gone) (range_with_len 0 (suc (length r.metamodel.features)))
 
--- whether an end of a reference has an object that is destroyed
+-- whether the end e is an end of a reference and has a destroyed object as a value
 abbrev pub holds_some : Reading → (Node → Bool) → End → Bool
 holds_some r is_gone e = (shape_at r e).is_reference && list_any (goes is_gone) (r.values e)
 
--- the ends of nodes that remain when o is destroyed, if they have a destroyed object as a value
+-- when o is destroyed: the ends at which a destroyed object is a value, and whose nodes remain
 abbrev pub touched_ends : Reading → ObjectNo → List End
 touched_ends r o = filter (holds_some r (is_in_subtree r o)) (outer_ends r (is_in_subtree r o))

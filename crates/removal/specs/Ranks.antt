@@ -1,5 +1,5 @@
--- How the ends of other nodes are found: they are the ends whose nodes are not destroyed, among all ends that have a destroyed object. A
--- destroyed object is recognised by its number.
+-- How the ends of other nodes are found: among all ends at which a destroyed object is a value, they are the ends whose nodes are not
+-- destroyed. A destroyed object is recognised by its number.
 use Rattle.std.specs.Prelude.{ℕ, ◌≡◌, Bool, false, not, List, filter}
 use Rattle.std.specs.BTreeSet as set
 use Rattle.std.specs.Ordering.{nat_cmp}
@@ -27,6 +27,6 @@ HasGone r o s = (n : Node) → is_in s n ≡ is_in_subtree r o n
 abbrev pub holds : Links → End → ObjectNo → Bool
 holds s e x = has_value (end s e) (value.Object x)
 
--- the ends whose nodes are not in a set of numbers
+-- the ends whose nodes are not objects with a number in a set
 abbrev pub staying_ends : Numbers → List End → List End
 staying_ends s es = filter (λ e. not (is_in s e.node)) es

@@ -1,4 +1,4 @@
--- What a deletion of an object concerns, as it was found in a model.
+-- What a deletion of an object concerns, as one search of a model finds it.
 use Rattle.std.specs.Prelude.{◌≡◌}
 use Rattle.containment.specs.Forest.{subtree}
 use Rattle.models.specs.Reading.{Reading}

@@ -14,13 +14,13 @@ use models::ModelRef;
 use std::alloc::{AllocError, Global};
 
 /// What a deletion of an object concerns: the objects that it destroys (the object and all objects below it), and the ends of other nodes
-/// that have some of these objects as values. `Removal::of` finds all this in one search, and the other functions of this crate borrow the
+/// that have some of these objects as values. `Removal::of` finds all this in one search, and `losses` and `tree_link_ends` borrow the
 /// result.
 #[derive(Drop)]
 pub struct Removal {
     /// The object that is deleted.
     pub object: ObjectNo,
-    /// That object and all objects below it, each before its contents.
+    /// The deleted object and all objects below it, each before the objects that it contains.
     pub objects: Vec<ObjectNo>,
     pub(crate) numbers: Numbers,
     pub(crate) ends: Vec<End>,
@@ -48,7 +48,7 @@ impl Removal {
         })
     }
 
-    /// Whether a node is destroyed. Takes no memory.
+    /// Whether the deletion destroys a node. Takes no memory.
     pub fn has(&self, node: Node) -> bool
         ensures { result ≡ ranks.is_in self.now.numbers node }
     {

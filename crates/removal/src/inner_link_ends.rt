@@ -1,5 +1,5 @@
-//! The links that are named at the ends of destroyed objects. A link between two destroyed objects is named at only one of its ends
-//! (`is_named_here`). An object is recognised as destroyed by its number.
+//! The links that are named at the ends of destroyed objects; a proxy at such an end counts as a link too. A link between two destroyed
+//! objects is named at only one of its ends (`is_named_here`). An object is recognised as destroyed by its number.
 ghost use Rattle.std.specs.Prelude.{◌≡◌, ◌++◌, [], true, filter, flat_map, map, OnOk, option_map, option_to_list, if◌then◌else◌};
 ghost use Rattle.mm_types.specs.Shapes.{shape};
 ghost use Rattle.mm_types.specs.declared.numbers.Node.TheVariants as node;
@@ -65,7 +65,8 @@ fn push_reference<L: LinkStore>(
     push_end(model, End { node, feature }, numbers, link_ends)
 }
 
-/// Adds the links and the proxies of an end, except the links that are named at the opposite end. The end's feature is a reference.
+/// Adds the links and the proxies of an end, except the links that are named at the opposite end. To be called only for an end of a
+/// reference.
 fn push_end<L: LinkStore>(
     model: &ModelRef<L>,
     end: End,
@@ -99,9 +100,9 @@ fn push_named<L: LinkStore>(
     Ok(())
 }
 
-/// Whether the link of a value that was found at an end of a destroyed object is named at this end. It is named there if the value is a
-/// proxy or an object that remains. If the value is a destroyed object, the link is named there if the end's feature has no opposite, or if
-/// the opposite has a higher feature number.
+/// Whether a link is named at an end of a destroyed object; `feature` is the feature of the end, and `found` the value of the link there.
+/// The link is named there if the value is a proxy or an object that remains. If the value is a destroyed object, the link is named there
+/// if `feature` has no opposite, or if the opposite has a higher feature number.
 fn is_named_here<L: LinkStore>(
     model: &ModelRef<L>,
     feature: FeatureNo,

@@ -9,14 +9,15 @@ ghost use Rattle.models.specs.Reading.{is_live};
 ghost use Rattle.removal.specs.Laws.{NameTreeLinks};
 ghost use Rattle.removal.specs.Outer.{holds_some, is_in_subtree, touched_ends};
 
-/// The ends that are found are exactly the ends of remaining nodes that have a destroyed object as a value. Each is found once, in order by
-/// feature number and then by node.
+/// If a live object of a legal model is deleted, the list `touched_ends` has exactly the ends of remaining nodes at which a destroyed
+/// object is a value. The list has each end once, in order by feature number and then by node.
 pub fn touched_ends_are_those_that_hold_something()
     ensures order { (s : Model) (o : ObjectNo) → AreInOrder (touched_ends (reading s) o) }
     ensures all { (s : Model) → IsLegal s → (o : ObjectNo) → is_live (reading s) o ≡ true → (e : End) → has_end (touched_ends (reading s) o) e ≡ (not (is_in_subtree (reading s) o e.node) && holds_some (reading s) (is_in_subtree (reading s) o) e) }
 {}
 
-/// The links that are cut when an object is deleted are exactly the links of the object and of all objects below it, each named once.
+/// The links that are cut when a live object of a legal model is deleted are exactly the links of the object and of all objects below it,
+/// each named once.
 pub fn each_link_of_a_tree_is_named_once()
     ensures { (s : Model) → IsLegal s → (o : ObjectNo) → is_live (reading s) o ≡ true → NameTreeLinks s o }
 {}

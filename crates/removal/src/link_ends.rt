@@ -12,7 +12,8 @@ use links::LinkStore;
 use models::ModelRef;
 use std::alloc::{AllocError, Global};
 
-/// The links of an object and of all objects below it, each named once. Fails only if memory is refused.
+/// The links of the deleted object and of all objects below it, each named once. A proxy that is a value of one of these objects counts as
+/// a link too. Fails only if memory is refused.
 pub fn tree_link_ends<L: LinkStore>(
     alloc: Global,
     model: &ModelRef<L>,

@@ -1,4 +1,4 @@
-//! The values that ends lose.
+//! The values that ends of other nodes lose when an object is deleted.
 ghost use Rattle.std.specs.Prelude.{◌≡◌, ◌&&◌, ◌++◌, false, not, true, IfOk, OnOk, Some, option_map, option_to_list};
 ghost use Rattle.std.specs.Option.{option_map_or};
 ghost use Rattle.mm_types.specs.Ends.{index_in};
@@ -22,12 +22,13 @@ use std::alloc::{AllocError, Global};
 pub struct Loss {
     pub end: End,
     pub value: Value,
-    /// The position of the value, from 0, once the losses before this loss are made.
+    /// The position of the value, counted from 0 in the list that the earlier losses leave.
     pub position: u32,
 }
 
 /// What ends of other nodes lose when an object and all objects below it are destroyed. The losses are in order by feature number, then by
-/// node, then by position. The loss of the object itself, at the end that contains it, comes last of all. Fails only if memory is refused.
+/// node, then by position. The loss of the object itself, at the end that contains it, comes last of all; there is no such loss if no end
+/// contains the object. Fails only if memory is refused.
 pub fn losses<L: LinkStore>(
     alloc: Global,
     model: &ModelRef<L>,
@@ -89,7 +90,7 @@ fn push_loss(
     Ok(())
 }
 
-/// Adds the loss of the deleted object itself, at the end that contains it, if an end does.
+/// Adds the loss of the deleted object itself, at the end that contains it, if an end contains it.
 fn push_last<L: LinkStore>(
     model: &ModelRef<L>,
     removal: &Removal,
@@ -125,9 +126,9 @@ fn last_position<L: LinkStore>(model: &ModelRef<L>, removal: &Removal, end: End)
     kept
 }
 
-/// Whether an end loses a value before the last step of the deletion. `found` is the value if the value is an object, and `None` if it is a
-/// proxy; a proxy stays. The last step takes the deleted object out of the end that contains it. `is_holder` says whether the end that
-/// loses the value contains the deleted object.
+/// Whether an end loses a value before the last step of the deletion. The last step takes the deleted object out of the end that contains
+/// it. `found` is the value if the value is an object, and `None` if it is a proxy; a proxy stays. `is_holder` says whether the end
+/// contains the deleted object.
 fn is_lost(removal: &Removal, is_holder: bool, found: Option<ObjectNo>) -> bool
     ensures { result ≡ option_map_or (λ x. ranks.is_in removal.now.numbers (node.Object x) && not (is_holder && same_value (value.Object x) (value.Object removal.now.object))) found false }
 {

@@ -24,8 +24,8 @@ impl Numbers {
         Ok(Numbers(numbers))
     }
 
-    /// Whether a node is an object with one of these numbers. No chain of containers is walked up, so a deep tree takes no more time. Takes
-    /// no memory.
+    /// Whether a node is an object with one of these numbers. The function does not walk up through the containers of the node, so it takes
+    /// no more time in a deep tree than in a flat tree of as many objects. Takes no memory.
     pub(crate) fn has(&self, node: Node) -> bool
         ensures { result ≡ ranks.is_in self.now node }
     {

@@ -1,5 +1,5 @@
 -- The invariant of a repository holds again after the edits of a change, and after memory for them was refused.
-use Rattle.std.proofs.Common.{◌≡◌, ◌∙◌, ℕ, List, None, Err, sym, subst}
+use Rattle.std.proofs.Common.{◌≡◌, ◌∙◌, ℕ, List, None, Err, ap, sym, subst}
 use Rattle.std.specs.FinMap as map
 use Rattle.std.specs.Prelude.{false, if◌then◌else◌}
 use Rattle.links.specs.Holders.{above}
@@ -21,6 +21,7 @@ use Rattle.notice_chain.specs.Listed.{Listed}
 use Rattle.notice_chain.specs.Released.{Spot}
 use Rattle.notice_chain.specs.declared.notice.Notice.{Notice}
 use Rattle.adapter_list.specs.Hearing.{AreKnown}
+use Rattle.adapter_list.specs.Rounds.{RoundView, round_of}
 use Rattle.adapter_list.specs.declared.hearers.Hearers.{Hearers}
 use Rattle.handshake.specs.declared.change.Change.{Change}
 use Rattle.handshake.proofs.ProxyLemmas.{change-keeps-steady}
@@ -40,6 +41,10 @@ use Rattle.repository.proofs.RememberedLemmas.{hearers-kept, kept-after}
 -- a change that is ready for the abstract state is ready for the state of the repository
 pub seen : (s v : State) (text : List ℕ) (c : Change) (a : Answer) (ss : List Spot) (es : List Edit) (vs : List ValueEdit) (ns : List Notice) → s ≡ v → IsReady v text c a ss es vs ns → IsReady s text c a ss es vs ns
 seen s v text c a ss es vs ns is ready = subst (λ (t : State). IsReady t text c a ss es vs ns) (sym is) ready
+
+-- a round of a chain by the abstract state is its round by the state of the repository
+pub round-here : (s v : State) (ns : List Notice) (r : RoundView) → s ≡ v → r ≡ round_of (reads v).above ns v.adapters → r ≡ round_of (reads s).above ns s.adapters
+round-here s v ns r is same = same ∙ ap (λ (t : State). round_of (reads t).above ns t.adapters) (sym is)
 
 -- a change that is ready may be refused memory
 pub no-memory : (s v : State) (text : List ℕ) (c : Change) (a : Answer) (ss : List Spot) (es : List Edit) (vs : List ValueEdit) (ns : List Notice) → s ≡ v → IsReady v text c a ss es vs ns → Executed s (command_of text c) (Err (record { refused = Memory; given_back = None })) s

@@ -17,7 +17,8 @@ is_change (command.Detach number) = false
 is_change (command.Read q) = false
 is_change _ = true
 
--- a change that is not refused is also not refused if there are no adapters, and the model after it is the same in both cases
+-- if the command c asks for a change and is not refused in the state s, it is also not refused without the adapters of s. The model after c
+-- is the same in both cases
 abbrev pub IsAloneToo : State → Command View → Type 0
 IsAloneToo s c =
     is_change c ≡ true → refusal_of s c ≡ None
@@ -27,7 +28,8 @@ IsAloneToo s c =
 abbrev pub KeepsModel : State → Command View → Type 0
 KeepsModel s c = is_change c ≡ false → (step s c).after.model ≡ s.model
 
--- a change that was done is also done if there are no adapters, and the model after it is the same in both cases
+-- if the command c asked for a change and was executed with the reply r, it is also done without the adapters of s. The model after c is
+-- the same in both cases
 abbrev pub ComesBack : State → Command View → Reply View → State → Type 0
 ComesBack s c r t =
     is_change c ≡ true → Executed s c (Ok r) t

@@ -49,7 +49,7 @@ got_answer (feature_value.One v) = answer.Value v
 got_answer (feature_value.Many vs) = answer.Values vs
 
 -- `add` gives whether the list changed, `remove` and `move` the value, `remove_value` whether the value was there, and `resolve` the object
--- that replaces the proxy
+-- that replaces the proxy; the other acts, `set` and `unset`, give `Done`
 abbrev pub act_answer : Reading → End → Act → Answer
 act_answer r e (act.Add v i) = answer.Flag (not (is_repeat r e v))
 act_answer r e (act.Remove i) = answer.Value (value_in (r.values e) i)
@@ -73,8 +73,9 @@ read_answer r rs (asks.ObjectAt t) = answer.Found (at r t)
 read_answer r rs (asks.Adapter number Told) = answer.Count (count_of rs number (λ v. v.told))
 read_answer r rs (asks.Adapter number Kept) = answer.Count (count_of rs number (λ v. length v.kept))
 
--- `delete` gives how many objects it destroyed, `load` how many it made, `resolve_all` how many proxies it resolved and how many remain,
--- `watch` whether the adapter got the target, and `unwatch` whether the adapter lost the target
+-- `create` gives the object that it made, and `create_resource` the resource. `delete` gives how many objects it destroyed, `load` how many
+-- it made, `resolve_all` how many proxies it resolved and how many remain, `watch` whether the adapter got the target, and `unwatch`
+-- whether the adapter lost the target. `attach` and `detach` give `Done`
 abbrev pub answer_of : Reading → List Listed → Command View → Answer
 answer_of r rs (command.At e a) = act_answer r e a
 answer_of r rs (command.Create c) = answer.Object (record { 0 = r.next })
@@ -87,7 +88,7 @@ answer_of r rs (command.Unwatch number target) = answer.Flag (is_target number t
 answer_of r rs (command.Read q) = read_answer r rs q
 answer_of r rs _ = answer.Done
 
--- whether the answer of a change is known only when the change is planned; the answer then says how many objects a deletion destroys, which
+-- whether the answer of a change is known only when the change is planned. This answer says how many objects a deletion destroys, which
 -- object replaces a proxy, or how many proxies are resolved and how many are left
 abbrev pub is_answered_late : Change → Bool
 is_answered_late c = is_some (destroyed_by c) || resolves_one c || resolves_all c
@@ -96,7 +97,7 @@ abbrev pub IsEarlyAnswer : Bool → Answer → Option Answer → Type 0
 IsEarlyAnswer false a q = q ≡ Some a
 IsEarlyAnswer true a q = q ≡ None
 
--- the answer that depends on what planning finds; none if the answer is known before planning
+-- the answer of a change, from what planning finds; none if the answer is known before planning
 abbrev pub planned_answer : Finding → Option Answer
 planned_answer finding.Nothing = None
 planned_answer (finding.Removal x) = Some (answer.Destroyed (length x.objects.items))

@@ -1,4 +1,4 @@
--- Commands by the names of the calls that do them.
+-- The commands that change a feature or read something, each under the name of its call (without `e_` and `_to`).
 use Rattle.std.specs.Prelude.{ℕ, List, Option}
 use Rattle.mm_types.specs.declared.numbers.AdapterNo.{AdapterNo}
 use Rattle.mm_types.specs.declared.numbers.FeatureNo.{FeatureNo}

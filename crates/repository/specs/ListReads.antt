@@ -11,7 +11,7 @@ use Rattle.repository.specs.Answers.{feature_value_at}
 use Rattle.repository.specs.declared.reply.FeatureValue.{FeatureValue}
 use Rattle.repository.specs.declared.reply.FeatureValue.TheVariants as feature_value
 
--- the list of a feature; `NotMany` for a single value
+-- the list of a feature; `NotMany` if the feature is single
 abbrev pub list_of : FeatureValue → Result (List Value) Refused
 list_of (feature_value.One v) = Err NotMany
 list_of (feature_value.Many vs) = Ok vs

@@ -29,13 +29,14 @@ pub record TellsAll (up : Above) (made chain : List Notice) (rs : List Listed) :
   pub adapters : tell_chain up made rs ≡ tell_chain up chain rs
   pub full : is_chain_full up made rs ≡ is_chain_full up chain rs
 
--- a plan of the change c in the model m, with any finding, has the edits es of links, the edits vs of values and the notifications ns
+-- the edits es of links, the edits vs of values and the notifications ns are, with some finding, a plan of the change c in the model m. If
+-- `is_heard` is false, ns is empty
 abbrev pub IsPlanned : Bool → Model → Change → List Edit → List ValueEdit → List Notice → Type 0
 IsPlanned is_heard m c es vs ns = (f : Finding) × IsPlanOf is_heard m c (record { finding = f; edits = es; values = vs; chain = ns })
 
--- the change c is ready in the state s: it can be refused only with `AdapterFull` or `Memory`. `text` is the text that c loads, if c is a
--- load; a is the answer of c, and `going` has the targets that are taken away; es and vs are the edits of links and of values. ns has the
--- notifications of c; those that no adapter gets may be missing
+-- the change c is ready in the state s: c can be refused only with `AdapterFull` or `Memory`. `text` is the text that c loads, if c is a
+-- load; a is the answer of c, and `going` has the targets that c takes away. es and vs are the edits of links and of values that make c. ns
+-- has the notifications of c; those that no adapter gets may be missing
 pub record IsReady (s : State) (text : List ℕ) (c : Change) (a : Answer) (going : List Spot) (es : List Edit) (vs : List ValueEdit) (ns : List Notice) : Type 0 where
   pub asked : early_refusal (reads s) c ≡ None
   pub allowed : late_refusal (reads s) c ≡ None

@@ -5,6 +5,7 @@ use Rattle.mm_types.specs.declared.numbers.Node.TheVariants as node
 use Rattle.adapter_list.specs.Hearing.{is_heard}
 use Rattle.repository.specs.State.{State, reads}
 
--- whether an adapter is notified of a put: at the end of the new link, or, if the feature has an opposite, at the object of the link
+-- whether an adapter is notified when the link p is put in: at the node of the end of p or, if the feature has an opposite, at the object
+-- of p
 abbrev pub is_put_heard : State → NewLink → Bool
 is_put_heard s p = is_heard (reads s).above p.end.node s.adapters || (is_some p.opposite && is_heard (reads s).above (node.Object p.object) s.adapters)

@@ -1,5 +1,6 @@
--- Why a command is refused: the first refusal that applies, in the order of the numbers of the refusals, with one exception: `Unmatched`
--- comes after `Unresolved` and before `NoAdapter`.
+-- Why a command is refused. If several refusals apply, the command is refused with the first in the order of their numbers, with one
+-- exception: `Unmatched` comes after `Unresolved` and before `NoAdapter`. `Memory` is not among them; `specs/Run.antt` says when a command
+-- may fail with `Memory`.
 use Rattle.std.specs.Prelude.{◌≡◌, ℕ, ◌&&◌, MatchBool, true, false, nat_lt, length, List, [], Option, Some, None, is_some, option_map}
 use Rattle.std.specs.Option.{option_map_or}
 use Rattle.mm_types.specs.Conditions.{◌unless◌, ◌where_so◌, ◌else_by◌, is_memory_refusal}
@@ -42,7 +43,7 @@ change_of r (command.Load k text) = load_of k (reads_into r k text)
 change_of r command.ResolveAll = Some change.ResolveAll
 change_of r _ = None
 
--- the notifications of the change that a command makes
+-- the notifications of the change that a command asks for; none if the command asks for no change
 abbrev pub chain : Reading → Command View → List Notice
 chain r c = option_map_or (planned_chain.chain r) (change_of r c) []
 
@@ -51,7 +52,7 @@ chain r c = option_map_or (planned_chain.chain r) (change_of r c) []
 abbrev pub adapter_refusal : List Listed → AdapterNo → Option Refused
 adapter_refusal rs number = NoAdapter unless is_some (adapter number rs)
 
--- why a read is refused: something that the read names doesn't exist
+-- why a read is refused early: something that the read names doesn't exist
 abbrev pub early_read_refusal : Reading → List Listed → Read → Option Refused
 early_read_refusal r rs (asks.At e q) = end_refusal r e
 early_read_refusal r rs (asks.Of o q) = object_refusal r o
@@ -87,8 +88,8 @@ late_read_refusal r (asks.Save k) = save_refusal r k
 late_read_refusal r (asks.ObjectAt t) = TextLength unless is_short_text t else_by BadUri unless has_mark t
 late_read_refusal r _ = None
 
--- the refusal of a command that is not refused early. A `CreateResource` or a `Load` may be refused because of its text. Otherwise a change
--- is refused as planning says. `Attach` and `Watch` are refused by the list of adapters, and reads by `late_read_refusal`
+-- the refusal of a command that is not refused early. A `CreateResource` or a `Load` may be refused because of its text. Apart from this, a
+-- change is refused as planning says. `Attach` and `Watch` are refused by the list of adapters, and reads by `late_read_refusal`
 abbrev pub late_refusal : Reading → List Listed → Command View → Option Refused
 late_refusal r rs (command.CreateResource t) = resource_refusal r t (joined_uri [] t)
 late_refusal r rs (command.Load k text) = load_refusal r k (reads_into r k text)

@@ -24,7 +24,8 @@ abbrev pub is_memory : Outcome → Bool
 is_memory (Ok r) = false
 is_memory (Err f) = is_memory_refusal f.refused
 
--- whether a refusal is always found before memory is taken. A command to which this refusal applies does not fail with MEMORY
+-- whether a refusal is always found before memory is taken. If this refusal is the first that applies to a command, the command does not
+-- fail with MEMORY
 abbrev pub is_plain : Refused → Bool
 is_plain NoObject = true
 is_plain NoResource = true
@@ -51,11 +52,13 @@ abbrev pub takes_memory : Command View → Bool
 takes_memory (command.Read q) = read_takes_memory q
 takes_memory _ = true
 
--- whether a command may fail with MEMORY: it may take memory, and it has no refusal that is found before memory is taken
+-- whether a command may fail with MEMORY: it may take memory; and no refusal applies to it, or `is_plain` is not true of the first that
+-- applies
 abbrev pub may_want_memory : State → Command View → Bool
 may_want_memory s c = takes_memory c && not (option_map_or is_plain (refusal_of s c) false)
 
--- a command failed with MEMORY: nothing changed, no adapter was notified, and the adapter that the command was given is given back
+-- a command that may fail with MEMORY failed with MEMORY: nothing changed, no adapter was notified, and if the command was given an
+-- adapter, this adapter is given back
 pub record IsWanting (s : State) (c : Command View) (o : Outcome) (t : State) : Type 0 where
   pub may : IsTrue (may_want_memory s c)
   pub outcome : o ≡ Err (failure c Memory)
@@ -71,7 +74,7 @@ abbrev pub read_outcome : {X : Type 0} → (X → Answer) → Result X Refused �
 read_outcome f (Ok x) = Ok (record { answer = f x; told = []; released = [] })
 read_outcome f (Err r) = Err (record { refused = r; given_back = None })
 
--- the outcome of a change at an end; a is the answer of a change that gives no reply (`Unheard`)
+-- the outcome of a change at an end, from a `Brief`. If the change was done without a reply (`Unheard`), its answer is a
 abbrev pub brief_outcome : {A : Type 0} → (A → View) → Answer → Brief A → Outcome
 brief_outcome heard a (Unheard r) = read_outcome (λ u. a) r
 brief_outcome heard a (Replied r) = change_outcome (changed_view heard r)
@@ -104,7 +107,7 @@ run s (c ∷ cs) =
     let rest = run one.after cs in
     record { outcomes = one.outcome ∷ rest.outcomes; after = rest.after }
 
--- the outcomes other than MEMORY; and `commands_kept`, the commands of these outcomes
+-- the outcomes other than MEMORY; and `commands_kept`, the commands that had these outcomes
 abbrev pub outcomes_kept : List Outcome → List Outcome
 outcomes_kept [] = []
 outcomes_kept (o ∷ os) = if is_memory o then outcomes_kept os else o ∷ outcomes_kept os
@@ -115,6 +118,6 @@ commands_kept [] (o ∷ os) = []
 commands_kept (c ∷ cs) (o ∷ os) = if is_memory o then commands_kept cs os else c ∷ commands_kept cs os
 
 -- the commands cs had the outcomes os. Take the commands that did not fail with MEMORY. A run of these commands alone in the state s gives
--- exactly their outcomes, and leaves the state t
+-- exactly the outcomes that they had, and leaves the state t
 abbrev pub IsRun : State → List (Command View) → List Outcome → State → Type 0
 IsRun s cs os t = run s (commands_kept cs os) ≡ record { outcomes = outcomes_kept os; after = t }

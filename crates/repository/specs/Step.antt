@@ -24,7 +24,8 @@ pub record Stepped : Type 0 where
   pub outcome : Outcome
   pub after : State
 
--- a refused command leaves the state as it was, and gives back the adapter that it was given
+-- the failure of a refused command: it gives back the adapter that the command was given, if any; and `refused_step`, which leaves the
+-- state as it was
 abbrev pub failure : Command View → Refused → Failure View
 failure c r = record { refused = r; given_back = brought_adapter c }
 
@@ -32,26 +33,27 @@ abbrev pub refused_step : State → Command View → Refused → Stepped
 refused_step s c r = record { outcome = Err (failure c r); after = s }
 
 -- the targets that a command takes away: `delete` takes away the targets at the objects that it destroys, `unwatch` the target that it
--- names, and `detach` all targets of the adapter that it names
+-- names, and `detach` all targets of the adapter that it names; any other command takes no target away
 abbrev pub going_spots : Reading → List Listed → Command View → List Spot
 going_spots r rs (command.Delete o) = spots (is_gone_at (is_in_subtree r o)) rs
 going_spots r rs (command.Unwatch number target) = (number, target) ∷ []
 going_spots r rs (command.Detach number) = spots (is_of number) rs
 going_spots r rs _ = []
 
--- the adapter that a command attaches
+-- the adapter that a command attaches, as a list; empty if the command attaches none
 abbrev pub attached_adapters : Command View → List Listed
 attached_adapters (command.Attach number target deep view) = record { no = number; targets = record { node = target; deep = deep } ∷ []; view = view } ∷ []
 attached_adapters _ = []
 
--- the adapters after a command attached an adapter, or gave an adapter a target that it did not have
+-- the adapters rs after a command attached an adapter, or gave an adapter a target that the adapter did not have; rs itself if the command
+-- did neither
 abbrev pub adapters_after_attach : Command View → List Listed → List Listed
 adapters_after_attach (command.Attach number target deep view) rs = rs ++ attached_adapters (command.Attach number target deep view)
 adapters_after_attach (command.Watch number target deep) rs = if is_target number target rs then rs else adapters_after_watch number (record { node = target; deep = deep }) rs
 adapters_after_attach _ rs = rs
 
--- first the adapters are notified of the chain, and then the targets are taken away; the nodes that are above a notifier before the command
--- decide which adapters are notified
+-- the result of taking away the targets that a command takes away (`going_spots`), after the adapters were notified of the chain of the
+-- command. Which adapters are notified depends on the nodes that are above the notifier before the command
 abbrev pub releases : Reading → List Listed → Command View → Released
 releases r rs c = released_adapters (going_spots r rs c) (tell_chain r.above (chain r c) rs)
 

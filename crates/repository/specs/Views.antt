@@ -1,4 +1,4 @@
--- Commands and outcomes with views instead of adapters: contracts determine only what an adapter was notified of.
+-- Commands and outcomes with views instead of adapters: contracts determine only the views of adapters.
 use Rattle.std.specs.Prelude.{ℕ, List, map, Option, Some, None, Result, Ok, Err, option_map}
 use Rattle.handshake.specs.declared.change.Change.{Change}
 use Rattle.handshake.specs.declared.change.Change.TheVariants as change
@@ -51,7 +51,7 @@ module _ {A : Type 0} (heard : A → View) where
   outcome_view (Ok r) = Ok (reply_view r)
   outcome_view (Err f) = Err (failure_view f)
 
-  -- the reply or the refusal of a command that is given no adapter
+  -- the reply, with views instead of adapters, or the refusal of a command that is given no adapter
   abbrev pub changed_view : Result (Reply A) Refused → Result (Reply View) Refused
   changed_view (Ok r) = Ok (reply_view r)
   changed_view (Err r) = Err r

@@ -1,4 +1,4 @@
-//! The answers of changes, which are found before anything changes.
+//! The answers of changes. The answer of a change is found before the change is made.
 ghost use Rattle.std.specs.Prelude.{◌≡◌, ℕ, List, false, is_some, Some, true, IfOk};
 ghost use Rattle.mm_types.specs.Ends.{value_in};
 ghost use Rattle.notice_chain.specs.Listed.{Listed};
@@ -17,8 +17,8 @@ use mm_types::{End, ObjectNo, ResourceNo, Value};
 use models::{ModelRef, copied};
 use std::alloc::{AllocError, Global};
 
-/// The answer that a change has if it is not refused. The answer must not depend on the plan of the change. Fails only if memory is
-/// refused.
+/// The answer that a change has if it is not refused. The caller passes only a change whose answer does not depend on its plan: no
+/// deletion, no resolve of one proxy and no resolve of all proxies. Fails only if memory is refused.
 pub(crate) fn known_answer<L: LinkStore>(
     alloc: Global,
     model: &ModelRef<L>,
@@ -34,8 +34,8 @@ pub(crate) fn known_answer<L: LinkStore>(
     }
 }
 
-/// The answer that a change has if it is not refused. `None` for a deletion, a resolve, and a resolve of all proxies: the plan of the
-/// change gives the answer. Fails only if memory is refused.
+/// The answer that a change has if it is not refused. `None` for a deletion, a resolve of one proxy, and a resolve of all proxies, since
+/// the answer of such a change depends on its plan. Fails only if memory is refused.
 pub(crate) fn early_answer<L: LinkStore>(
     alloc: Global,
     model: &ModelRef<L>,
@@ -54,8 +54,8 @@ pub(crate) fn early_answer<L: LinkStore>(
     }
 }
 
-/// The answer that an act at an end has if it is not refused; `None` for a resolve, whose plan gives the answer. Fails only if memory is
-/// refused.
+/// The answer that an act at an end has if it is not refused; `None` for a resolve, since its answer depends on its plan. Fails only if
+/// memory is refused.
 fn early_act_answer<L: LinkStore>(
     alloc: Global,
     model: &ModelRef<L>,
@@ -82,8 +82,8 @@ pub(crate) fn next_object<L: LinkStore>(model: &ModelRef<L>) -> ObjectNo
     ObjectNo(model.next() as u32)
 }
 
-/// The answer that depends on what planning found: how many objects are destroyed, the object that replaces a proxy, or how many proxies
-/// are resolved and how many are left.
+/// The answer of a change, taken from what planning found: how many objects are destroyed, the object that replaces a proxy, or how many
+/// proxies are resolved and how many are left. Planning must have found one of these (no `Nothing`).
 pub(crate) fn planned_answer(finding: &Finding) -> Answer
     requires found { is_some (planned_answer_of finding.now) ≡ true }
     ensures { Some result ≡ planned_answer_of finding.now }

@@ -18,12 +18,13 @@ pub enum Command<A = Box<dyn Adapter>> {
     /// Reads a text as a document, and loads the document into an empty resource (EMF: Resource.load).
     Load(ResourceNo, Text),
     /// Resolves all proxies, one after another (EMF: EcoreUtil.resolveAll). The proxies are ordered by the number of the referring object,
-    /// then by feature in the order of all features, then by index. A proxy is skipped if `Repository::resolve` would refuse it for a
-    /// reason other than `AdapterFull` and `Memory`. If an adapter can't count its notifications, or memory is refused, no proxy is
-    /// resolved and no adapter is notified.
+    /// then by feature in the order of all features, then by index. In its turn a proxy is skipped if `Repository::resolve` would then be
+    /// refused, for a reason other than `AdapterFull` and `Memory`. The command is refused if memory is refused, or if an adapter can't
+    /// count its notifications of the command and a last notification from each of its targets. Then no proxy is resolved and no adapter is
+    /// notified.
     ResolveAll,
-    /// Attaches an adapter to a node, last in attach order (EMF: Notifier.eAdapters().add). A deep adapter is also notified of changes
-    /// below the node (EMF: EContentAdapter).
+    /// Attaches an adapter to a node, as the last in attach order (EMF: Notifier.eAdapters().add). If `deep`, the adapter is also notified
+    /// of changes below the node (EMF: EContentAdapter).
     Attach {
         no: AdapterNo,
         target: Node,
@@ -36,14 +37,15 @@ pub enum Command<A = Box<dyn Adapter>> {
         target: Node,
         deep: bool,
     },
-    /// Takes one target from an adapter. If this was the adapter's last target, the adapter is given back (EMF:
+    /// Takes one target from an adapter, and notifies the adapter of this. If the adapter has no other target, it is given back (EMF:
     /// Notifier.eAdapters().remove).
     Unwatch {
         no: AdapterNo,
         target: Node,
     },
-    /// Detaches an adapter from all its targets. The adapter is notified, and given back (EMF: Notifier.eAdapters().remove).
+    /// Detaches an adapter from all its targets. The adapter is notified once for each target, and is given back (EMF:
+    /// Notifier.eAdapters().remove).
     Detach(AdapterNo),
-    /// Reads the model or the counts of an adapter, and changes nothing.
+    /// Reads something of the model, or a count of an adapter. Changes nothing.
     Read(Read),
 }

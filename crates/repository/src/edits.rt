@@ -24,8 +24,8 @@ use mm_types::ClassNo;
 use mm_values::{ValuePlan, Values};
 use std::alloc::AllocError;
 
-/// The edits of a change. Most changes make one edit, or edit only values or only links. Each of these kinds of edits has a type of its
-/// own, so that a change takes no more steps than its edits need.
+/// The edits of a change. Most changes make one object or one link, or edit only values, or edit only links. The edits of each of these
+/// four kinds have a type of their own, so that a change takes no more steps than its edits need.
 pub(crate) trait Edits: Drop {
     /// The edits of links.
     ghost edits_of_links: { Self → List Edit };
@@ -33,12 +33,13 @@ pub(crate) trait Edits: Drop {
     /// The edits of values.
     ghost edits_of_values: { Self → List ValueEdit };
 
-    /// The capacity that `reserve` promises to `apply`. Two predicates are given: the first says when the store has capacity for a list of
-    /// edits of links, and the second says when the values have capacity for a list of edits of values.
+    /// That there is capacity for the edits: `reserve` ensures this, and `apply` requires it. It is always true of edits for which `apply`
+    /// takes the memory. The second and the third argument are predicates: when the store has capacity for a list of edits of links, and
+    /// when the values have capacity for a list of edits of values.
     ghost has_room: { Self → (List Edit → Type 0) → (List ValueEdit → Type 0) → Type 0 };
 
-    /// Forgets what may be wrong after the edits: the remembered fragments if a containing link is edited, and the adapters that are
-    /// remembered for a node if a node may get another container. Takes no memory.
+    /// Forgets what may be wrong after the edits: all remembered fragments if a containing link is edited, and the remembered adapters if
+    /// some node may get a different container. Takes no memory.
     fn forget(&self, meta: &Meta, paths: &mut PathCache, hearers: &mut Hearers)
         requires of_kind { IsPlanOfKind (kinds_of meta.now) (edits_of_links self.now) }
         ensures paths { paths.new ≡ (if touches (kinds_of meta.now) (edits_of_links self.now) then map.empty else paths.old) }

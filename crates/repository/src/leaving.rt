@@ -31,7 +31,7 @@ pub(crate) fn spots_gone<A: Adapter>(
     }
 }
 
-/// The targets at the objects of a removal. Only adapters that have a target at one of these objects are looked at.
+/// The targets at the objects that a removal destroys. Only adapters that have a target at one of these objects are looked at.
 fn spots_with<A: Adapter>(
     alloc: Global,
     adapters: &AdapterList<A>,
@@ -50,7 +50,8 @@ fn spots_with<A: Adapter>(
     Ok(spots)
 }
 
-/// Adds to `spots` the targets of an adapter that are at objects of a removal.
+/// Adds to `spots` those targets of an adapter that are at objects of a removal. `no` is the number of the adapter, and `targets` has all
+/// its targets.
 fn add_gone(
     spots: &mut Vec<(AdapterNo, Node)>,
     removal: &Removal,

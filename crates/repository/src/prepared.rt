@@ -40,11 +40,11 @@ pub(crate) struct Prepared<E> {
 
 /// A type of edits, with the function `prepare` that plans them. The function is called before anything changes.
 pub(crate) trait Planned: Edits {
-    /// The changes whose edits are of this type.
+    /// The changes that `prepare` accepts: their edits can have this type.
     ghost covers: { Metamodel → ChangeView → Type 0 };
 
-    /// Prepares a change, or gives the refusal that planning finds. Puts the notifications into `chain`, which the caller passes in empty.
-    /// Notifications are made only if `is_heard` is set, which says that an adapter may have to get them.
+    /// Prepares a change. Refused with the refusal that planning finds, or with `Memory`. Puts the notifications into `chain`, which the
+    /// caller passes in empty. In `is_heard` the caller passes whether an adapter may have to be notified; if not, no notification is made.
     fn prepare<L: LinkStore, A: Adapter>(
         alloc: Global,
         model: &ModelRef<L>,
@@ -62,7 +62,7 @@ pub(crate) trait Planned: Edits {
         ensures refused { IfErr result (λ r. IsPlanRefusal model.now change r) };
 }
 
-/// Changes that edit only values.
+/// For a new object, and for each act at an attribute except a resolve. These changes edit only values.
 impl Planned for ValuePlan {
     ghost covers = { λ m c. edits_values_alone m c ≡ true };
 
@@ -85,7 +85,7 @@ impl Planned for ValuePlan {
     }
 }
 
-/// Changes that edit only links.
+/// For each act at a reference except a resolve. These changes edit only links.
 impl Planned for Plan {
     ghost covers = { λ m c. edits_links_alone m c ≡ true };
 
@@ -108,7 +108,7 @@ impl Planned for Plan {
     }
 }
 
-/// All changes.
+/// For all changes.
 impl Planned for AllEdits {
     ghost covers = { λ m c. ⊤ };
 

@@ -12,7 +12,7 @@ use fragment_paths::PathCache;
 use links::{Edit, Plan};
 use mm_meta::Meta;
 
-/// Whether a plan edits a containing link, which is a link at an end of a containment or of a container reference.
+/// Whether a plan edits a containing link, that is, a link at an end of a containment or of a container reference.
 fn touches_containment(meta: &Meta, edits: &Plan) -> bool
     ensures { result ≡ touches (kinds_of meta.now) edits.now }
 {
@@ -22,8 +22,8 @@ fn touches_containment(meta: &Meta, edits: &Plan) -> bool
         .any(|e| meta.containing(e.end().feature).is_some())
 }
 
-/// Forgets what may be wrong after a plan. The fragments are forgotten if the plan edits a containing link. The remembered adapters are
-/// forgotten if the plan may give some node a different container. Takes no memory.
+/// Forgets what may be wrong after the edits of a plan. All remembered fragments are forgotten if the plan edits a containing link. The
+/// remembered adapters are forgotten if the plan may give some node a different container. Takes no memory.
 #[inline(always)]
 pub(crate) fn forget_touched(
     paths: &mut PathCache,

@@ -1,4 +1,4 @@
-//! Replies and refusals of commands that are given no adapter.
+//! The replies of commands that notify no adapter, and the outcomes of commands that are given no adapter.
 ghost use Rattle.std.specs.Prelude.{◌≡◌, [], true};
 ghost use Rattle.notice_chain.specs.View.{View};
 ghost use Rattle.repository.specs.Run.{answered_outcome, change_outcome, read_outcome};
@@ -43,7 +43,7 @@ pub(crate) fn replied_read<A>(
     Ok(reply(alloc, answer))
 }
 
-/// The outcome of a command that is given no adapter: its failure gives no adapter back.
+/// The outcome of a command that is given no adapter, from its reply or its refusal. A failure of the command gives no adapter back.
 pub(crate) fn outcome<A>(found: Result<Reply<A>, Refused>) -> Result<Reply<A>, Failure<A>>
     ensures { (heard : A → View) → outcome_view heard result ≡ change_outcome (changed_view heard found) }
 {

@@ -9,7 +9,7 @@ use snapshots::Snapshot;
 /// The answer of a command that is done.
 #[derive(Debug, Drop)]
 pub enum Answer {
-    /// The answer of a command that only changes something.
+    /// The command is done, and has nothing to return: a set, an unset, an attach or a detach.
     Done,
     /// The object that was made, or the object that replaced a proxy.
     Object(ObjectNo),
@@ -29,7 +29,7 @@ pub enum Answer {
     Destroyed(u64),
     /// How many objects a load made.
     Loaded(u64),
-    /// How many proxies were resolved (two at the ends of one link count once), and how many are left.
+    /// How many proxies were resolved (two at the ends of one link count as one), and how many are left.
     Resolved { done: u64, left: u64 },
     /// The object that contains a given object; `None` if no object contains it.
     Container(Option<ObjectNo>),
@@ -52,7 +52,7 @@ pub enum Answer {
 /// What a feature holds.
 #[derive(Debug, Drop)]
 pub enum FeatureValue {
-    /// The value of a single feature; null if the feature is empty.
+    /// The value of a single feature. It is null if a reference is empty, or if a text attribute is null.
     One(Value),
     /// The values of a many-valued feature, in order.
     Many(Seq<Value>),
@@ -86,7 +86,7 @@ pub struct Reply<A = Box<dyn Adapter>> {
 /// longer than such a change.
 #[derive(Drop)]
 pub enum Brief<A = Box<dyn Adapter>> {
-    /// The change notified no adapter. The value is the refusal if the change was refused.
+    /// The change was done and notified no adapter; or it was refused, and the error is the refusal.
     Unheard(Result<(), Refused>),
     /// The reply, or the refusal.
     Replied(Result<Reply<A>, Refused>),
@@ -96,6 +96,6 @@ pub enum Brief<A = Box<dyn Adapter>> {
 #[derive(Drop)]
 pub struct Failure<A = Box<dyn Adapter>> {
     pub refused: Refused,
-    /// The adapter that the command was given, as it was; `None` if the command was given none.
+    /// The adapter that the command was given, with the notifications that it had; `None` if the command was given none.
     pub given_back: Option<A>,
 }

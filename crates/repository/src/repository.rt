@@ -26,13 +26,14 @@ use models::ModelRef;
 use std::alloc::Global;
 use std::marker::Model;
 
-/// Objects of a metamodel's classes with their values, their links in a store, and the adapters that are notified of changes (EMF: Resource
-/// with EObjects; MOF 2.5.1: Extent).
+/// Resources; objects of a metamodel's classes, with their values; the links of both, in a store; and the adapters that are notified of
+/// changes (EMF: Resource with EObjects; MOF 2.5.1: Extent).
 ///
-/// A command that is refused changes nothing and notifies no adapter. Contracts see a repository as its `State`, which is always legal.
-/// Code that holds a repository is generic over its store and the type of its adapters; only the outermost caller picks these two types.
-/// Most callers pick `Box<dyn Adapter>` as the type of the adapters. A repository that is dropped drops its adapters without notifying
-/// them; `close` gives them back.
+/// A command that is refused changes nothing and notifies no adapter. Contracts see a repository as its `State`, which is always legal. The
+/// type of the store and the type of the adapters are type parameters. A caller with adapters of several types picks `Box<dyn Adapter>`.
+/// Then each function that makes or returns the repository, or gets it as an argument, has to be generic over the type of the adapters, and
+/// only the outermost caller picks this type. A repository that is dropped drops its adapters without notifying them; `close` gives them
+/// back.
 #[derive(Drop)]
 pub struct Repository<L: LinkStore, A: Adapter = Box<dyn Adapter>> {
     alloc: Global,
@@ -40,11 +41,12 @@ pub struct Repository<L: LinkStore, A: Adapter = Box<dyn Adapter>> {
     values: Values,
     store: L,
     adapters: AdapterList<A>,
-    /// The fragments that are remembered, up to 1,024. All of them are forgotten when a plan or a put edits a containing link, and when
-    /// there would be more than 1,024.
+    /// The fragments that are remembered, up to 1,024. All of them are forgotten when a change edits a containing link, and when there
+    /// would be more than 1,024.
     paths: PathCache,
-    /// The adapters that are notified of changes at one node, the node that was looked up last. They are forgotten when a node may get a
-    /// different container, and when an adapter gets or loses a target.
+    /// The result of the last search for the adapters of a notification: the node of the notification, and the adapters that are notified
+    /// of changes at this node. The result is forgotten when a node may get a different container, and when an adapter gets or loses a
+    /// target.
     hearers: Hearers,
 }
 
@@ -95,14 +97,14 @@ impl<L: LinkStore, A: Adapter> Repository<L, A> {
         ModelRef::new(&self.meta, &self.values, &self.store)
     }
 
-    /// The state of every repository is legal. A proof that sees only the view of a repository gets this fact by a call of this method.
+    /// The state of every repository is legal. A proof that knows a repository only as its `State` gets this fact by a call of this method.
     pub fn lemma_is_legal(&self)
         ensures { s.IsLegal self.now }
     {
         let _ = &self.alloc;
     }
 
-    /// The URIs of the resources and the proxies of every repository are normalised. The laws by which a saved resource is read back
+    /// In every repository the URIs of resources and of proxies are normalised. The laws by which a saved resource is read back
     /// (`round_trip::laws`) require this.
     pub fn has_steady_texts(&self)
         ensures { HasSteadyTexts self.now.model }

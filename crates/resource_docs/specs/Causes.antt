@@ -65,14 +65,14 @@ abbrev pub is_proxy : Value → Bool
 is_proxy (value.Proxy t) = true
 is_proxy _ = false
 
--- whether the feature of a content is a reference with an opposite, and one of the values is a proxy, which leads to a different resource.
--- In documents of the first format this is a fault
+-- whether the feature of a content is a reference with an opposite, and one of its values is a proxy, which leads to a different resource.
+-- A document of the first format that has a content of this kind is refused
 abbrev pub has_cross : Metamodel → Content → Bool
 has_cross m c = is_some (shape m c.feature).opposite && list_any is_proxy c.values
 
 ---------------------------------------------------------------- the causes in order
 
--- whether `holds` is true of some object of a document and the content of one of its features
+-- whether a document has an object o with a content c such that `holds o c` is true
 abbrev pub of_content : (ObjectNo → Content → Bool) → Doc → Bool
 of_content holds d = list_any (λ x. list_any (holds (record { 0 = x.0 })) x.1.contents) (enumerate_from 0 d.objects)
 
@@ -86,8 +86,8 @@ shape_cause m t ps =
     cause.Feature where_so of_written (has_other_key m) ps else_by
     cause.Value where_so of_entry m (λ e. not (is_content m e)) ps
 
--- the first cause that applies, of those that depend on the targets of references, on repeated values, on the number of values, on
--- opposites, and on the level of a part
+-- the first cause that applies, of those that depend on the targets of references, on repeated values, on the number of values and of
+-- roots, on opposites, and on the level of a part
 abbrev pub sense_cause : Metamodel → Base → Data → List Part → Doc → Option DocFault
 sense_cause m b d ps doc =
     cause.Reference where_so of_entry m (has_lost m b ps) ps else_by
@@ -104,7 +104,7 @@ abbrev pub unless_faulty : Option DocFault → Doc → Result Doc DocFault
 unless_faulty None doc = Ok doc
 unless_faulty (Some f) doc = Err f
 
--- the document that a JSON value is read as, or its fault; b has the URI of the document's resource
+-- the document that a JSON value is read as, or the first cause for which it is refused; b has the URI of the document's resource
 abbrev pub reads : Metamodel → Base → Data → Result Doc DocFault
 reads m b d = unless_faulty (cause_of m b d) (doc_read m b d)
 
@@ -129,13 +129,15 @@ pub record IsRead (m : Metamodel) (uri : List ℕ) (doc : Doc) : Type 0 where
   pub source : Data
   pub gives : reads m (base_of uri) source ≡ Ok doc
 
--- the result is as `wanted`: the document, whose proxies have normalised URIs, or the fault. Or the result is `Memory`, whatever is wanted
+-- the result is `wanted`, which is a document or a cause; or the result is `Memory`, whatever is wanted. If the result is a document, its
+-- proxies have normalised URIs
 abbrev pub Answers : Result Doc Refused → Result Doc DocFault → Type 0
 Answers (Ok doc) wanted = (wanted ≡ Ok doc) × HasSteadyProxies doc
 Answers (Err (Document f)) wanted = wanted ≡ Err f
 Answers (Err Memory) wanted = Unit {0}
 Answers (Err _) wanted = ⊥
 
--- `result` is what reading bytes as a document of the resource with the URI `uri` gives: the document, its fault, or `Memory`
+-- `result` is what reading bytes as a document of the resource with the URI `uri` gives: the document, the first cause for which it is
+-- refused, or `Memory`
 abbrev pub Reads : Result Doc Refused → Metamodel → List ℕ → List ℕ → Type 0
 Reads result m uri bytes = Answers result (reads_bytes m uri bytes)

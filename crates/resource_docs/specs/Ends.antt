@@ -22,7 +22,7 @@ has e k = list_any (same_naming k) e.namings.keys
 
 ---------------------------------------------------------------- what names what
 
--- whether the object that a naming names is among values
+-- whether the object that the naming k names is among the values vs
 abbrev pub is_among : List Value → Naming → Bool
 is_among vs k = list_any (same_value (value.Object (record { 0 = k.named }))) vs
 
@@ -55,7 +55,7 @@ any_one_sided_by m e os = list_any (λ x. list_any (one_sided_by m e x.0) x.1.co
 
 ---------------------------------------------------------------- which objects have to be named back
 
--- whether the objects that a content names have to name back the object that has the content: the feature of the content has an opposite,
--- and is no containment
+-- whether the feature of a content has an opposite and is no containment. If so, each object among the values of the content has to name
+-- back, under the opposite, the object that has the content
 abbrev pub asks_back : Metamodel → Content → Bool
 asks_back m c = not (is_containment m c.feature) && is_some (shape m c.feature).opposite

@@ -4,6 +4,4 @@ pub mod Read
 pub mod Reading
 pub mod Causes
 pub mod Keys
-pub mod DocValues
-pub mod Contents
 pub mod Ends

@@ -24,7 +24,7 @@ values_read m b ps path e =
 abbrev pub content_read : Metamodel → Base → List Part → Path → Entry → Content
 content_read m b ps path e = record { feature = e.feature; values = values_read m b ps path e }
 
--- the contents of an object; an empty array is left out
+-- the contents of an object; a feature without values is left out, for example a list that is written as an empty array
 abbrev pub contents_read : Metamodel → Base → List Part → Path → List Entry → List Content
 contents_read m b ps path es = filter (λ c. not (is_nil c.values)) (map (content_read m b ps path) es)
 

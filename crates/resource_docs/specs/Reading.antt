@@ -39,8 +39,8 @@ Numbered m f n says = (ps : List Part) (path : Path) → Knows m f ps → number
 abbrev pub new_values : List Value → Bool → ReadValues
 new_values vs lost = record { values = vs; is_lost = lost }
 
--- what is read from ds, the first JSON values under a feature: the values, and whether one of ds is a reference that leads nowhere or to an
--- object of a wrong class
+-- what is read from ds, the JSON values under a feature that were looked at so far: the values, and whether one of ds is a reference that
+-- leads nowhere or to an object of a wrong class
 abbrev pub values_so_far : Metamodel → Base → List Part → Path → FeatureNo → Kind → List Data → ReadValues
 values_so_far m b ps path f k ds =
     record { values = filter_map (value_of m b ps path f k) (enumerate_from 0 ds); is_lost = list_any (is_lost m b ps k) ds }
@@ -91,8 +91,8 @@ objects_so_far m b ps qs =
 
 ---------------------------------------------------------------- causes
 
--- the first cause that applies, of those that are found before values are read: by the shape of the parts, by the format, and by the names
--- of the parts' classes
+-- the first cause that applies, of those that are found before values are read. They depend on the shape of the parts, on the format, and
+-- on the names of the parts' classes
 abbrev pub early_cause : Metamodel → Option Top → List Part → Option DocFault
 early_cause m t ps =
     cause.Layout where_so (not (is_some t) || list_any is_misshapen ps) else_by
@@ -103,8 +103,8 @@ early_cause m t ps =
 abbrev pub late_cause : Metamodel → Base → Data → List Part → Doc → Option DocFault
 late_cause m b d ps doc = cause.Value where_so of_entry m (λ e. not (is_content m e)) ps else_by sense_cause m b d ps doc
 
--- the cause `Feature` if an object has a key that is no feature of its class, or is a container reference; else the cause that is known
--- after the values are read
+-- the cause `Feature` if an object of a known class has a key that names no feature of the class, or names a container reference; else the
+-- first cause that applies, of those that are known only after the values are read
 abbrev pub named_cause : Metamodel → Base → Data → List Part → Doc → Option DocFault
 named_cause m b d ps doc = cause.Feature where_so of_written (has_other_key m) ps else_by late_cause m b d ps doc
 

@@ -9,7 +9,7 @@ use Rattle.web_uris.specs.declared.path.Path.{Path}
 use Rattle.resource_docs.specs.declared.referent.Referent.{Referent}
 use Rattle.resource_docs.specs.declared.referent.Referent.TheVariants.{Here, Elsewhere}
 
--- a resource's URI, and how a reference joins with it
+-- a resource's URI, and the function that joins a reference with this URI; the function gives none if joining gives no URI
 pub record Base : Type 0 where
   pub uri : List ℕ
   pub join : List ℕ → Option (List ℕ)
@@ -28,17 +28,17 @@ uri_meant b (c ∷ cs) = b.join (c ∷ cs)
 abbrev pub target_in : Base → List ℕ → List ℕ → Path → Referent
 target_in b rest uri p = if bytes_eq uri b.uri then Here p else Elsewhere (address_text uri rest)
 
--- the target of an address that is cut in two: `part` is a URI, a relative reference or empty, and `rest` is the fragment. None if `rest`
--- is no fragment, or if joining gives no URI
+-- the target of an address that is cut in two at a `#`: `part`, before the `#`, is a URI, a relative reference or empty; `rest`, after the
+-- `#`, is to be a fragment. None if `rest` is no fragment, or if joining gives no URI
 abbrev pub target_at : Base → List ℕ → List ℕ → Option Referent
 target_at b part rest = parse rest >>= (λ p. option_map (λ u. target_in b rest u p) (uri_meant b part))
 
--- the target of a text: a text without `#` is a fragment of the document; in any other text a URI, a relative reference or nothing comes
--- before the first `#`, and a fragment after it. None if the text does not have this form, or if joining gives no URI
+-- the target of a text. A text without `#` is read as a fragment of the document. In any other text, the part before the first `#` is read
+-- as a URI, a relative reference or nothing, and the part after it as a fragment. None if there is no fragment, or if joining gives no URI
 abbrev pub target : Base → List ℕ → Option Referent
 target b t = if has_mark t then target_at b (uri_part t) (fragment_part t) else option_map Here (parse t)
 
--- if a target is in a different resource, it is the text of a proxy with a normalised URI; nothing is required of a target in the document
+-- the address of a target in a different resource is a normalised URI, `#` and a fragment; nothing is required of a target in the document
 -- itself
 abbrev pub IsProxyReferent : Referent → Type 0
 IsProxyReferent (Here p) = Unit {0}

@@ -29,7 +29,8 @@ use Rattle.resource_docs.specs.declared.referent.Referent.TheVariants.{Here, Els
 abbrev pub object_of : ℕ → Value
 object_of n = value.Object (record { 0 = n })
 
--- the value of a target: an object of the document, or a proxy; none if the document has no object there that conforms to the class
+-- the value of a target. For a path in the document, the value is the object there; none if no object is there, or if it does not conform
+-- to the class. For an address in a different resource, the value is a proxy
 abbrev pub led_to : Metamodel → List Part → ClassNo → Referent → Option Value
 led_to m ps class (Here p) =
     number_of ps p >>= (λ n. slice_get ps n >>= (λ q. if conforms_to m class q.json then Some (object_of n) else None))
@@ -43,7 +44,8 @@ abbrev pub is_link : Kind → Bool
 is_link (Attribute t unique unsettable default) = false
 is_link (Reference class containment opposite) = not containment
 
--- whether the data under a reference that is no containment leads nowhere, or to an object of a wrong class; false for any other feature
+-- whether the data under a reference that is no containment is no text, leads nowhere, or leads to an object of a wrong class; false for
+-- any other feature
 abbrev pub is_lost : Metamodel → Base → List Part → Kind → Data → Bool
 is_lost m b ps (Attribute t unique unsettable default) d = false
 is_lost m b ps (Reference class true opposite) d = false
@@ -54,7 +56,7 @@ has_lost m b ps e = option_map_or (λ g. list_any (is_lost m b ps g.kind) (value
 
 ---------------------------------------------------------------- values
 
--- the value of the data at a position, under a feature of the object at a path
+-- the value that the data v.1 at the position v.0 gives, under the feature f of the object at the path p; none if the data gives no value
 abbrev pub value_of : Metamodel → Base → List Part → Path → FeatureNo → Kind → ℕ × Data → Option Value
 value_of m b ps p f (Attribute t unique unsettable default) v = attribute_value m (shape m f).is_single t v.1
 value_of m b ps p f (Reference class true opposite) v = option_map object_of (number_of ps (with_step p (step_to m f v.0)))

@@ -1,4 +1,4 @@
-//! Which objects of a document refer to which other objects, and whether the other objects refer back.
+//! Which objects of a document refer to which objects of the same document, and whether the objects that have to refer back do so.
 ghost use Rattle.std.specs.Prelude.{◌≡◌, ◌||◌, ◌∷◌, [], IfOk, OnOk, false};
 ghost use Rattle.std.specs.List.{list_any};
 ghost use Rattle.resource_docs.specs.Causes.{is_one_sided, of_content};
@@ -19,7 +19,7 @@ pub(crate) struct Naming {
     pub named: usize,
 }
 
-/// Which objects of a document refer to which objects of the same document.
+/// The references between the objects of a document, as a set: which object names which object under which feature.
 #[derive(Drop)]
 pub(crate) struct Ends {
     namings: IndexSet<Naming>,
@@ -97,7 +97,7 @@ impl Ends {
         Ok(())
     }
 
-    /// Which objects of a document refer to which objects of the same document. Fails only if memory is refused.
+    /// The references between `objects`, which are all objects of a document. Fails only if memory is refused.
     pub fn of(alloc: Global, objects: &[DocObject]) -> Result<Self, AllocError>
         ensures { IfOk result (λ e. IsEndsOf e objects.now) }
     {
@@ -108,8 +108,7 @@ impl Ends {
         Ok(ends)
     }
 
-    /// Whether the feature has an opposite, and `value` names an object that does not name `object` back under the opposite. Takes no
-    /// memory.
+    /// Whether `feature` has an opposite, and `value` is an object that does not name `object` back under the opposite. Takes no memory.
     fn is_unanswered(&self, meta: &Meta, object: usize, feature: FeatureNo, value: &Value) -> bool
         ensures { result ≡ unanswered_by meta.now self.now object feature value.now }
     {
@@ -170,8 +169,8 @@ impl Ends {
     }
 }
 
-/// Whether the objects that a content names have to name back the object that has the content: the feature of the content has an opposite,
-/// and is no containment.
+/// Whether the feature of a content has an opposite and is no containment. If so, each object among the values of the content has to name
+/// back, under the opposite, the object that has the content.
 fn asks_back(meta: &Meta, content: &Content) -> bool
     ensures { result ≡ asks_meant meta.now content.now }
 {
@@ -193,7 +192,8 @@ fn is_any_asked(meta: &Meta, objects: &[DocObject]) -> bool
 }
 
 /// Whether an object `a` of a document names an object `b` under a feature that has an opposite and is no containment, but `b` does not
-/// name `a` under the opposite. Fails only if memory is refused. Takes no memory if no object has a value under a feature of this kind.
+/// name `a` under the opposite. Fails only if memory is refused. Takes no memory if each feature that has values is a containment or has no
+/// opposite.
 pub(crate) fn has_one_sided(alloc: Global, meta: &Meta, doc: &Doc) -> Result<bool, AllocError>
     ensures { IfOk result (λ b. b ≡ of_content (is_one_sided meta.now doc.now) doc.now) }
 {

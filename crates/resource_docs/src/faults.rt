@@ -23,15 +23,15 @@ use mm_meta::Meta;
 use mm_types::{DocFault, limits};
 use std::alloc::AllocError;
 
-/// Whether a document has the first format.
+/// Whether the format of a document is 1, the first format.
 pub(crate) fn has_first_format(top: TopMembers) -> bool
     ensures { result ≡ first_meant (new_top top.entry.format (items_view top.entry.roots.now)) }
 {
     top.format == i64::from(limits::FIRST_DOCUMENT_FORMAT)
 }
 
-/// The first of the causes `Layout`, `Format` and `Class` that applies. These causes are about the shape of the parts, the format of the
-/// document, and the classes that the parts name. Takes no memory.
+/// The first of the causes `Layout`, `Format` and `Class` that applies; `None` if none of them applies. These causes are about the layout
+/// of the parts, the format of the document, and the classes that the parts name. Takes no memory.
 pub(crate) fn early_cause(meta: &Meta, top: TopMembers, found: &FoundParts) -> Option<DocFault>
     ensures { (ps : List Part) → Knows meta.now found.now ps → result ≡ early_meant meta.now (Some (new_top top.entry.format (items_view top.entry.roots.now))) ps }
 {
@@ -47,7 +47,7 @@ pub(crate) fn early_cause(meta: &Meta, top: TopMembers, found: &FoundParts) -> O
     None
 }
 
-/// Whether there are more roots than a resource may have.
+/// Whether `count` roots are more than a resource may have.
 fn has_many_roots(meta: &Meta, count: usize) -> bool
     ensures { result ≡ not (is_bounded (contents_shape meta.now) count) }
 {
@@ -64,8 +64,9 @@ pub(crate) struct Noted {
     pub has_long: bool,
 }
 
-/// The first cause from `Reference` on that applies. These causes are about the targets of references, repeated values, the number of
-/// values, opposites, and the depth of a part. Fails only if memory is refused.
+/// The first of the causes `Reference`, `Duplicate`, `Bound`, `OneSided`, `Cross` and `Depth` that applies; `None` if none of them applies.
+/// These causes are about the targets of references, repeated values, the number of values and of roots, opposites, and the level of a
+/// part. Fails only if memory is refused.
 pub(crate) fn sense_cause(
     source: &ReadContext,
     noted: Noted,

@@ -1,13 +1,11 @@
 //! Documents of resources: how a document is read, and why it can't be read.
 //!
-//! `doc_parts` says which parts of a document are looked at. `specs/Read.antt` defines the document that bytes are read as, and
-//! `specs/Causes.antt` has the causes for which bytes are refused, in order.
+//! The crate `doc_parts` says which parts of a document are looked at. `specs/Read.antt` defines the `Doc` that a JSON value is read as,
+//! and `specs/Causes.antt` has the causes for which a document is refused, in order.
 #![tactic(auto)]
 
-mod contents;
 mod cross;
 mod doc;
-mod doc_values;
 mod ends;
 mod faults;
 mod objects;
@@ -19,9 +17,7 @@ mod repeats;
 mod roots;
 mod values;
 
-pub use contents::{ContentParts, Contents};
 pub use doc::{Content, Doc, DocObject};
-pub use doc_values::DocValues;
 pub use reading::{read_doc, read_doc_text};
 pub use referent::Referent;
 pub use web_uris::{UriFault, joined};

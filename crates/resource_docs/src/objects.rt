@@ -13,22 +13,20 @@ ghost use Rattle.resource_docs.specs.Texts.{Base, base_of};
 ghost use Rattle.web_uris.specs.declared.path.Path.{Path};
 ghost use Rattle.resource_docs.specs.Values.{IsProxyValue};
 
-use crate::contents::Contents;
 use crate::doc::{Content, DocObject};
-use crate::doc_values::DocValues;
 use crate::read_context::ReadContext;
 use crate::values::{ReadValues, read_content};
 use borrowed_json::{Json, Members};
 use doc_parts::{FoundPart, content_at, is_content, is_long};
 use mm_meta::Meta;
-use mm_types::{ClassNo, FeatureNo, Seq};
+use mm_types::{ClassNo, FeatureNo, Few, Seq, Value};
 use std::alloc::{AllocError, Global};
 
 /// What is read of an object: its contents, and three faults. `is_lost`: a reference leads nowhere, or to an object of a wrong class.
 /// `has_other`: a content is not of its feature's type. `has_long`: a content has too many values.
 #[derive(Drop)]
 pub(crate) struct ReadContents {
-    pub contents: Contents,
+    pub contents: Few<Content>,
     pub is_lost: bool,
     pub has_other: bool,
     pub has_long: bool,
@@ -48,7 +46,7 @@ pub(crate) struct ReadObjects {
 fn no_contents(alloc: Global, room: usize) -> Result<ReadContents, AllocError>
     ensures { IfOk result (λ r. r ≡ record { contents = []; is_lost = false; has_other = false; has_long = false }) }
 {
-    let contents = Contents::with_capacity(alloc, room)?;
+    let contents = Few::with_capacity(alloc, room)?;
     Ok(ReadContents {
         contents,
         is_lost: false,
@@ -82,7 +80,7 @@ fn is_of_type<'t>(
     meta: &Meta,
     feature: FeatureNo,
     content: &'t Json<'t>,
-    values: &DocValues,
+    values: &Few<Value>,
 ) -> bool
     ensures { (b : Base) (ps : List Part) (path : Path) → values.now ≡ values_read meta.now b ps path (new_entry feature (view content.now)) → result ≡ is_content_meant meta.now (new_entry feature (view content.now)) }
 {
@@ -92,8 +90,7 @@ fn is_of_type<'t>(
     is_content(meta, feature, content)
 }
 
-/// Notes in `read` whether a content has one of two faults: it is not of its feature's type (`is_of_type` is false), or it has too many
-/// values.
+/// Notes in `read` if a content is not of its feature's type (`is_of_type` is false), and if it has too many values.
 fn note_flaws<'t>(
     read: &mut ReadContents,
     meta: &Meta,
@@ -107,7 +104,8 @@ fn note_flaws<'t>(
     read.has_long = read.has_long || is_long(meta, feature, content);
 }
 
-/// Reads the content of one more feature, and returns whether the feature has a content.
+/// Reads the content of one more feature, if `members` has one, and returns whether `members` has one. A container reference counts as a
+/// feature without content.
 fn add_feature(
     read: &mut ReadContents,
     source: &ReadContext,
@@ -133,8 +131,8 @@ fn add_feature(
     }
 }
 
-/// How many members are still to be found after one more feature was looked for. Before, `left` members were to be found; `is_found` says
-/// whether the member of this feature was found.
+/// How many members are still to be found after one more feature was looked for. `left` members were to be found before this feature was
+/// looked for, and `is_found` says whether a member of the feature was found.
 fn left_after(left: usize, is_found: bool) -> usize
     requires { 0 < left }
     ensures { left ≡ result + (if is_found then 1 else 0) }
@@ -142,8 +140,9 @@ fn left_after(left: usize, is_found: bool) -> usize
     if is_found { left - 1 } else { left }
 }
 
-/// Reads the contents of the features of a class. Also returns whether each member is known to be the content of one of these features. If
-/// a key comes twice, this is not known, and the returned value is false.
+/// Reads the contents that `members` has for `features`, which are all features of the class `class`. Also returns whether each member is
+/// known to be the content of a feature that is no container reference. If `members` has a key twice, this is not known, and the returned
+/// value is false.
 fn read_features(
     source: &ReadContext,
     number: u32,
@@ -172,8 +171,8 @@ fn read_features(
 }
 
 /// Reads the contents of the object of a part. Also returns whether each member is known to be readable (`is_readable`). A member is
-/// readable if its key is the name of a feature of the class, and this feature is no container reference. If the class is unknown, the
-/// returned value is true.
+/// readable if its key is the name of a feature of the class, and this feature is no container reference. If the part is no object of a
+/// known class, nothing is read, and the returned value is true.
 fn read_contents(source: &ReadContext, part: &FoundPart) -> Result<(ReadContents, bool), AllocError>
     ensures all { IfOk result (λ r. r.1 ≡ true → has_other_member source.now.meta.now (part_seen part.now) ≡ false) }
     ensures value { IfOk result (λ r. (ps : List Part) (p : Part) → Knows source.now.meta.now source.now.found.now ps → part_seen part.now ≡ seen_part source.now.meta.now ps p
@@ -220,7 +219,8 @@ fn add_object(
 }
 
 /// Reads the objects of the parts that were found, in loading order. Also returns whether each member of each object is known to be
-/// readable: whether `read_contents` returns true for each object. Fails only if memory is refused, or if a list has more than 2^32 values.
+/// readable: whether `read_contents` returns true for each object. Fails only if memory is refused, if a list has more than 2^32 values, or
+/// if a joined URI would be longer than URIs can be.
 pub(crate) fn read_objects(source: &ReadContext) -> Result<(ReadObjects, bool), AllocError>
     ensures all { IfOk result (λ r. (ps : List Part) → Knows source.now.meta.now source.now.found.now ps → r.1 ≡ true → of_written (other_key source.now.meta.now) ps ≡ false) }
     ensures value { IfOk result (λ r. (ps : List Part) → Knows source.now.meta.now source.now.found.now ps → r.0 ≡ objects_so_far source.now.meta.now (base_of source.now.uri.now) ps ps) }

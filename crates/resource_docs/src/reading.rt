@@ -26,11 +26,11 @@ use mm_meta::Meta;
 use mm_types::{DocFault, Refused};
 use std::alloc::Global;
 
-/// The greatest depth of nested arrays and objects in JSON that is read.
+/// The greatest depth to which arrays and objects nest in JSON that `read_json` reads.
 const NESTING: usize = 127;
 
-/// The document whose objects were read, or the first cause that applies, from `Value` on. `has_first_format` says whether the document has
-/// the first format.
+/// The document with the objects that were read, or the first cause that applies, of `Value` and the causes of `sense_cause`.
+/// `has_first_format` says whether the document has the first format.
 fn read_rest(
     source: &ReadContext,
     has_first_format: bool,
@@ -68,8 +68,8 @@ fn read_rest(
     }
 }
 
-/// Whether some object has a member that is no feature of the object's class, or that is a container reference. If `is_all` says that no
-/// object has a member of this kind, no name is looked up.
+/// Whether some object of a known class has a member that is no feature of the class, or that is a container reference. `is_all` may be
+/// true only if no object has a member of this kind; then no name is looked up.
 fn has_other_member(source: &ReadContext, is_all: bool) -> bool
     ensures { (ps : List Part) → Knows source.now.meta.now source.now.found.now ps → (is_all ≡ true → of_written (has_other_key source.now.meta.now) ps ≡ false) → result ≡ of_written (has_other_key source.now.meta.now) ps }
 {
@@ -135,7 +135,7 @@ fn read_value(alloc: Global, meta: &Meta, uri: &str, json: &Json) -> Result<Doc,
     }
 }
 
-/// Reads the text of a document as `read_doc` reads its bytes: with the same document or cause, and in the same time.
+/// Reads the text of a document as `read_doc` reads its bytes: returns the same document or the same cause, and takes the same time.
 pub fn read_doc_text(alloc: Global, meta: &Meta, uri: &str, text: &str) -> Result<Doc, Refused>
     ensures { Reads result meta.now uri.now text.now }
 {
@@ -152,25 +152,29 @@ pub fn read_doc_text(alloc: Global, meta: &Meta, uri: &str, text: &str) -> Resul
 /// the first cause of this list that applies:
 ///
 /// - `Syntax` if the bytes are no JSON in UTF-8, if the JSON has more than 127 levels, or if a number is too large for a float;
-/// - `Layout` if the value is not laid out as a document, or if a root, or a JSON object under a containment, is not laid out as an object:
-///   a key is missing, has a value of a wrong kind, or is not listed in `docs/DOCUMENTS.md`;
+/// - `Layout` if the JSON value is not laid out as a document, or if a root, or a JSON object under a containment, is not laid out as an
+///   object: the value is no JSON object, or a key in it is missing, has a value of a wrong kind, or is not listed in `docs/DOCUMENTS.md`;
 /// - `Format` if the format of the document is neither 1 nor 2;
 /// - `Class` if an object names a class that the metamodel does not have, or an abstract class;
-/// - `Feature` if a key is no feature of the object's class, or is a container reference;
+/// - `Feature` if a key under `features` names no feature of the object's class, or names a container reference;
 /// - `Value` if the content of a feature is not of the feature's type, or a text has more than 65,535 bytes;
 /// - `Reference` if the text of a reference is neither a fragment, with or without a `#` before it, nor a URI or relative reference with a
-///   fragment; if this URI or relative reference, joined with `uri`, gives no URI of http or https; or if the text leads into the document
-///   itself, but to no object that conforms to the type of the reference;
-/// - `Duplicate` if a unique list repeats a value;
+///   `#` and a fragment; if this URI or relative reference, joined with `uri`, gives no URI of http or https; or if the text leads into the
+///   document itself, but to no object that conforms to the type of the reference;
+/// - `Duplicate` if a unique list repeats a value (the list of a reference is always unique);
 /// - `Bound` if a list has more values than its upper bound, or more than 1,000,000, or if there are more than 1,000,000 roots;
-/// - `OneSided` if an object names a second object under a feature that has an opposite and is no containment, and the second object does
-///   not name the first one under the opposite;
+/// - `OneSided` if an object A names an object B of the document under a feature that has an opposite and is no containment, and B does not
+///   name A under the opposite (B may be A itself);
 /// - `Cross` if the format of the document is 1, and a reference with an opposite leads to a different resource;
-/// - `Depth` if an object is below level 40.
+/// - `Depth` if an object is at a level deeper than 40 (a root is at level 1).
 ///
-/// The only other refusal is `Memory`: if memory is refused, or if there are more than 2^32 objects or values of a list, whatever else
-/// applies. References into other resources become proxies, by their joined URIs. For each metamodel the time is linear in the document:
-/// the members of an object are searched at most twice for each feature of its class.
+/// Nothing is looked at under the key `features` of an object with a wrong layout or of an unknown class, in the content of an unknown
+/// feature, or in the content of a container reference. The only other refusal is `Memory`, which may come instead of any cause: if memory
+/// is refused, if there are more than 2^32 objects, if a list has more than 2^32 values, or if a joined URI would be longer than URIs can
+/// be.
+///
+/// A reference into another resource becomes a proxy: the joined URI, `#` and the fragment as it is written. For each metamodel the time is
+/// linear in the size of the document: the members of an object are searched at most twice for each feature of its class.
 pub fn read_doc(alloc: Global, meta: &Meta, uri: &str, bytes: &[u8]) -> Result<Doc, Refused>
     ensures { Reads result meta.now uri.now bytes.now }
 {

@@ -1,4 +1,4 @@
-//! Reads the texts of references, and looks their objects up among the parts that were found.
+//! Reads the texts of references, and looks up the objects to which the texts lead, among the parts that were found.
 ghost use Rattle.std.specs.Prelude.{◌≡◌, IfOk, IfSome, List, None, Some, if◌then◌else◌, slice_get};
 ghost use Rattle.borrowed_json.specs.View.{view};
 ghost use Rattle.doc_parts.specs.FoundParts.{Knows, conforms_seen, part_seen};
@@ -17,7 +17,7 @@ use mm_types::{ClassNo, ObjectNo, Value};
 use std::alloc::AllocError;
 use web_uris::Path;
 
-/// Whether the object of a part conforms to a class.
+/// Whether the object of a part conforms to a class; false if the part is no object of a known class.
 fn conforms_to(meta: &Meta, class: ClassNo, part: FoundPart) -> bool
     ensures { result ≡ conforms_seen meta.now class (part_seen part.entry) }
 {
@@ -60,7 +60,8 @@ fn led_to(meta: &Meta, found: &FoundParts, class: ClassNo, target: Referent) -> 
 }
 
 /// The value of a reference to a class: an object of the document that conforms to the class, or a proxy; `None` if the JSON value is no
-/// text, if the text leads nowhere, or if it leads to an object of a wrong class. Fails only if memory is refused.
+/// text, if the text leads nowhere, or if it leads to an object of a wrong class. Fails only if memory is refused, or if the joined URI
+/// would be longer than URIs can be.
 pub(crate) fn reference_value(
     source: &ReadContext,
     class: ClassNo,

@@ -7,7 +7,7 @@ use mm_types::Text;
 use std::alloc::{AllocError, Global};
 use web_uris::{Path, UriFault, address_of, joined, parse, split_address};
 
-/// What the text of a reference leads to. Whether an object is there is not tested.
+/// What the text of a reference leads to. There need not be an object at the path or the address.
 #[derive(Debug, Drop)]
 pub enum Referent {
     /// An object of the document itself, by its path.
@@ -16,8 +16,8 @@ pub enum Referent {
     Elsewhere(Text),
 }
 
-/// The URI that the part before a `#` stands for: the URI of the resource if the part is empty, else the part joined with that URI. `None`
-/// if joining gives no URI.
+/// The URI that `part`, the text before a `#`, stands for: if `part` is empty, `uri`, which is the URI of the document's resource;
+/// otherwise `part` joined with `uri`. `None` if joining gives no URI.
 fn uri_meant(alloc: Global, uri: &str, part: &str) -> Result<Option<String>, AllocError>
     ensures value { IfOk result (λ u. option_map string_bytes u ≡ uri_of (base_of uri.now) part.now) }
     ensures web { IfOk result (λ u. IfSome u (λ t. IsWebElsewhere uri.now (string_bytes t))) }
@@ -33,7 +33,7 @@ fn uri_meant(alloc: Global, uri: &str, part: &str) -> Result<Option<String>, All
 }
 
 /// The target of the reference with the URI `meant` and the fragment `rest`, which is read as `path`: an object of the document itself, if
-/// `meant` is the URI of the document's resource; otherwise an object of a different resource.
+/// `meant` is `uri`, the URI of the document's resource; otherwise an object of a different resource.
 fn target_in(
     alloc: Global,
     uri: &str,
@@ -52,8 +52,8 @@ fn target_in(
     Ok(Referent::Elsewhere(text))
 }
 
-/// What a reference with a `#` leads to. `part` is the text before the `#`, and `rest` the text after it. `None` if `rest` is no fragment,
-/// or if `part` is not empty and stands for no URI.
+/// What a reference with a `#` leads to. `part` is the text before the first `#`, and `rest` the text after it. `None` if `rest` is no
+/// fragment, or if `part` is not empty and gives no URI when it is joined with `uri`.
 fn address_target(
     alloc: Global,
     uri: &str,
@@ -73,8 +73,8 @@ fn address_target(
 }
 
 /// What the text of a reference leads to, in the document of the resource with the URI `uri`. `None` if the text is neither a fragment,
-/// with or without a `#` before it, nor a URI or relative reference with a fragment. Also `None` if joining the URI or relative reference
-/// with `uri` gives no URI. Fails only if memory is refused.
+/// with or without a `#` before it, nor a URI or relative reference with a `#` and a fragment. Also `None` if joining the URI or relative
+/// reference with `uri` gives no URI. Fails only if memory is refused, or if the joined URI would be longer than URIs can be.
 pub(crate) fn target_of(
     alloc: Global,
     uri: &str,

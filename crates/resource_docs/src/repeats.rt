@@ -74,7 +74,7 @@ fn repeats_value(alloc: Global, values: &[Value]) -> Result<bool, AllocError>
     Ok(false)
 }
 
-/// Whether a unique list repeats a value. Fails only if memory is refused.
+/// Whether the feature of a content is unique, and the content repeats a value. Fails only if memory is refused.
 fn has_repeat(alloc: Global, meta: &Meta, content: &Content) -> Result<bool, AllocError>
     ensures { IfOk result (λ b. b ≡ repeat_meant meta.now content.now) }
 {

@@ -1,4 +1,4 @@
-//! The roots of a document, among its objects.
+//! The numbers of the roots of a document.
 ghost use Rattle.std.specs.Prelude.{◌≡◌, ◌++◌, [], IfOk, List, OnOk, filter_map, map, option_map, option_to_list};
 ghost use Rattle.mm_types.specs.Resolved.{Metamodel};
 ghost use Rattle.borrowed_json.specs.View.{view};

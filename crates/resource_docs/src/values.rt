@@ -9,18 +9,17 @@ ghost use Rattle.resource_docs.specs.Reading.{Numbered, entry_read, new_values, 
 ghost use Rattle.resource_docs.specs.Texts.{base_of};
 ghost use Rattle.resource_docs.specs.Values.{IsProxyValue, is_link as link_meant, object_of, value_of as value_meant};
 
-use crate::doc_values::DocValues;
 use crate::read_context::ReadContext;
 use crate::references::reference_value;
 use borrowed_json::Json;
 use doc_parts::{PartKey, attribute_value, index_of, values_of};
-use mm_types::{FeatureNo, Kind, ObjectNo, Value};
+use mm_types::{FeatureNo, Few, Kind, ObjectNo, Value};
 use std::alloc::{AllocError, Global};
 
 /// What is read under a feature: its values, and whether a reference leads nowhere or to an object of a wrong class.
 #[derive(Drop)]
 pub(crate) struct ReadValues {
-    pub values: DocValues,
+    pub values: Few<Value>,
     pub is_lost: bool,
 }
 
@@ -47,7 +46,8 @@ fn part_at(
     }
 }
 
-/// The object at a position under a feature of the part with the number `number`. `likely` is a guess at the number of that object.
+/// The object at a position under a feature of the part with the number `number`; `None` if no part is there. `likely` is a guess at the
+/// number of the object. If the feature is single, the position is not used.
 fn part_of(
     source: &ReadContext,
     number: u32,
@@ -76,8 +76,9 @@ fn part_of(
     )
 }
 
-/// The value that is read at a position under a feature of the part with the number `number`. `likely` is a guess at the number of a
-/// contained object. Fails only if memory is refused.
+/// The value that is read from `json`, at a position under a feature of the part with the number `number`; `None` if `json` gives no value.
+/// `likely` is a guess at the number of the object, if the feature is a containment. Fails only if memory is refused, or if a joined URI
+/// would be longer than URIs can be.
 fn value_of(
     source: &ReadContext,
     number: u32,
@@ -125,8 +126,8 @@ fn note_lost(read: &mut ReadValues, is_lost: bool)
     read.is_lost = read.is_lost || is_lost;
 }
 
-/// A guess at the number of the next object under a feature of the part with the number `number`: one more than the number of the object
-/// that was read there last, or one more than `number` if none was read.
+/// A guess at the number of the next object under a feature of the part with the number `number`. If the last value that was read under the
+/// feature is an object, the guess is one more than the number of that object; otherwise it is one more than `number`.
 fn likely_number(read: &ReadValues, number: u32) -> u32 {
     match read.values.as_slice().last() {
         Some(Value::Object(object)) => object.0.saturating_add(1),
@@ -134,7 +135,8 @@ fn likely_number(read: &ReadValues, number: u32) -> u32 {
     }
 }
 
-/// Reads one more value under a feature, or notes that a reference leads nowhere or to an object of a wrong class.
+/// Reads one more value under a feature. If `json` gives no value, and the feature is a reference and no containment, notes that a
+/// reference leads nowhere or to an object of a wrong class.
 fn add_value(
     read: &mut ReadValues,
     source: &ReadContext,
@@ -161,14 +163,15 @@ fn add_value(
 fn no_values(alloc: Global, room: usize) -> Result<ReadValues, AllocError>
     ensures { IfOk result (λ r. r ≡ new_values [] false) }
 {
-    let values = DocValues::with_capacity(alloc, room)?;
+    let values = Few::with_capacity(alloc, room)?;
     Ok(ReadValues {
         values,
         is_lost: false,
     })
 }
 
-/// Reads values under a feature. Fails only if memory is refused, or if there are more than 2^32 values.
+/// Reads values under a feature. Fails only if memory is refused, if there are more than 2^32 values, or if a joined URI would be longer
+/// than URIs can be.
 fn read_values(
     source: &ReadContext,
     number: u32,
@@ -189,23 +192,23 @@ fn read_values(
 
 /// What was read under a single feature. `is_link` says whether the feature is a reference and no containment. If `is_link` is true and
 /// there is no value, the reference leads nowhere or to an object of a wrong class.
-fn one_read(value: Option<Value>, is_link: bool) -> ReadValues
+fn one_read(alloc: Global, value: Option<Value>, is_link: bool) -> ReadValues
     ensures value { result ≡ new_values (option_to_list value) (is_link && not (is_some value)) }
     ensures proxy { IfSome value IsProxyValue → All IsProxyValue result.values }
 {
     match value {
         Some(value) => ReadValues {
-            values: DocValues::one(value),
+            values: Few::one(value),
             is_lost: false,
         },
         None => ReadValues {
-            values: DocValues::none(),
+            values: Few::none(alloc),
             is_lost: is_link,
         },
     }
 }
 
-/// Reads the value of a single feature. Fails only if memory is refused.
+/// Reads the value of a single feature. Fails only if memory is refused, or if a joined URI would be longer than URIs can be.
 fn read_one(
     source: &ReadContext,
     number: u32,
@@ -218,11 +221,11 @@ fn read_one(
 {
     let likely = number.saturating_add(1);
     let value = value_of(source, number, feature, kind, 0, likely, json)?;
-    Ok(one_read(value, is_link(kind)))
+    Ok(one_read(source.alloc, value, is_link(kind)))
 }
 
-/// Reads the content of a feature of the part with the number `number`. Fails only if memory is refused, or if there are more than 2^32
-/// values.
+/// Reads the content of a feature of the part with the number `number`. Fails only if memory is refused, if there are more than 2^32
+/// values, or if a joined URI would be longer than URIs can be.
 pub(crate) fn read_content<'t>(
     source: &ReadContext,
     number: u32,

@@ -1,4 +1,4 @@
--- A resource as a document, which names the objects of the resource by their positions in loading order, and other objects by their
+-- A resource as a document, which names the objects of the resource by their indexes in loading order, and other objects by their
 -- addresses.
 use Rattle.std.specs.Prelude.{List, [], map, position, unwrap_or}
 use Rattle.std.specs.Option.{option_map_or}
@@ -17,8 +17,8 @@ use Rattle.resource_docs.specs.declared.doc.Content.{Content}
 use Rattle.resource_docs.specs.declared.doc.Doc.{Doc}
 use Rattle.resource_docs.specs.declared.doc.DocObject.{DocObject}
 
--- a value as the document has it: an object of the resource is named by its index in os, and any other object becomes a proxy with its
--- address; os are the objects of the resource in loading order
+-- a value as the document has it; os are the objects of the resource in loading order. An object of the resource is named by its index in
+-- os, any other object becomes a proxy with its address (empty if it has none), and any other value stays as it is
 abbrev pub renamed_value : Reading → List ObjectNo → Value → Value
 renamed_value r os (value.Object o) =
     option_map_or (λ n. value.Object (record { 0 = n })) (position (same_object o) os) (value.Proxy (unwrap_or (address r o) []))

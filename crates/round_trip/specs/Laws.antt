@@ -19,7 +19,8 @@ ReadsBack s =
     IsLegal s → HasSteadyTexts s → (k : ResourceNo) (uri : List ℕ) → IsReadable (reading s) k uri
     → reads s.metamodel (base_of uri) (document (reading s) k) ≡ Ok (copied_document (reading s) k)
 
--- under the same conditions: the text that a save of the resource returns is read as the resource
+-- in a legal model with normalised URIs: if a resource is readable, a text in UTF-8 that is read as the JSON value of its document
+-- (`IsReadAs` of `doc_writer`) is read as the resource. The text that a save returns is a text of this kind
 abbrev pub ReadsTextBack : Model → Type 0
 ReadsTextBack s =
     IsLegal s → HasSteadyTexts s → (k : ResourceNo) (uri text : List ℕ) → IsReadable (reading s) k uri → IsReadAs (reading s) k text → is_utf8 text ≡ true

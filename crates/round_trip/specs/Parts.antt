@@ -12,7 +12,7 @@ use Rattle.doc_parts.specs.Parts.{Entry, Part, new_entry}
 use Rattle.doc_writer.specs.Document.{content_data, feature_member, members, object_data}
 use Rattle.doc_writer.specs.Written.{written_features}
 
--- the path of an object in its resource
+-- the path of an object in its resource; the path of the first root, if the object is in no resource
 abbrev pub path_in : Reading → ObjectNo → Path
 path_in r o = unwrap_or (path_of r o) (new_path 0 [])
 

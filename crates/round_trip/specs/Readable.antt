@@ -29,14 +29,15 @@ pub record Refers (r : Reading) (k : ResourceNo) (o : ObjectNo) : Type 0 where
   pub written : Contains (reference_features r object) feature
   pub there : Contains (targets_under r object feature) o
 
--- no end of an object of the resource has both an object of a different resource and a proxy with the address of that object
+-- no end of an object of resource k has both an object b of a different resource and a proxy with the address of b
 abbrev pub HasNoneTwice : Reading → ResourceNo → Type 0
 HasNoneTwice r k =
     (o : ObjectNo) (f : FeatureNo) (b : ObjectNo) (t : List ℕ) → Contains (objects_in r k) o → Contains (r.values (at_end (node.Object o) f)) (value.Object b)
     → Contains (r.values (at_end (node.Object o) f)) (value.Proxy t) → is_in r k b ≡ false → address r b ≡ Some t → ⊥
 
--- The resource exists, and its URI is `uri`; its save is not refused; no text of a reference or of a proxy is longer than TEXT_BYTES; no
--- proxy has an address in the resource itself; and no end has both a proxy and the object at the address of that proxy.
+-- The resource k exists, and its URI is `uri`; its save is not refused; no text of a reference or of a proxy in it is longer than
+-- TEXT_BYTES; no proxy in it has the URI of the resource itself; and no end of its objects has both a proxy and the object at the address
+-- of that proxy.
 pub record IsReadable (r : Reading) (k : ResourceNo) (uri : List ℕ) : Type 0 where
   pub there : slice_get r.uris k.0 ≡ Some uri
   pub allowed : save_refusal r k ≡ None

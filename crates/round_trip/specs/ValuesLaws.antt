@@ -33,8 +33,8 @@ pub record IsPlaced (r : Reading) (k : ResourceNo) (o : ObjectNo) : Type 0 where
   pub number : number_of (parts_of r k) (path_in r o) ≡ position (same_object o) (objects_in r k)
   pub level : level_of (part_of r k o) ≡ level r o
 
--- v is the value at the index i under the feature f of the object o, and g is the declaration of f: the JSON value of v is accepted for f,
--- and is read as the value that the document has for v (`renamed_value`)
+-- the JSON value of v is accepted for the feature f, and is read as the value that the document has for v (`renamed_value`). Here v is the
+-- value at the index i under the feature f of the object o, and g is the declaration of f
 pub record IsReadAs (r : Reading) (k : ResourceNo) (uri : List ℕ) (o : ObjectNo) (f : FeatureNo) (g : Feature) (i : ℕ) (v : Value) : Type 0 where
   pub good : is_value r.metamodel (shape r.metamodel f).is_single g.kind (value_data r k (data_of r k) f v) ≡ true
   pub value : value_of r.metamodel (base_of uri) (parts_of r k) (path_in r o) f g.kind (i, value_data r k (data_of r k) f v) ≡ Some (renamed_value r (objects_in r k) v)

@@ -12,7 +12,7 @@ use Rattle.script_answers.specs.declared.turn.Turn.{Turn}
 abbrev pub plain_dress : Dress
 plain_dress = record { echo = false; number = false; stop = false }
 
--- the lines of a text, with the bytes `front` before each line
+-- the lines of a text, with the bytes `front` before each line and a newline after it
 abbrev pub each_behind : List ℕ → List ℕ → List ℕ
 each_behind front text = flat_map (λ l. front ++ l ++ NEWLINE ∷ []) (lines text)
 
@@ -27,29 +27,30 @@ echoed_line d line turn = if d.echo && not (is_blank turn) then codes "> " ++ li
 abbrev pub dressed_answer : Dress → ℕ → List ℕ → List ℕ
 dressed_answer d k answer = if d.number then numbered_lines k answer else answer
 
--- the output for the line of number k
+-- the output for the script line with the number k
 abbrev pub dressed_line : Dress → ℕ → List ℕ → Printed → List ℕ
 dressed_line d k line p = echoed_line d line p.turn ++ dressed_answer d k p.text
 
--- the output for lines that are numbered from k on
+-- the output for script lines that are numbered from k on
 abbrev pub dressed_output_from : Dress → ℕ → List (List ℕ) → List Printed → List ℕ
 dressed_output_from d k [] ps = []
 dressed_output_from d k (l ∷ ls) [] = []
 dressed_output_from d k (l ∷ ls) (p ∷ ps) = dressed_line d k l p ++ dressed_output_from d (suc k) ls ps
 
--- the output of lines, up to and including the first line that is refused or bad
+-- what lines print, up to and including the first line that is refused or bad; what all lines print if no line is refused or bad
 abbrev pub until_fault : List Printed → List Printed
 until_fault [] = []
 until_fault (p ∷ ps) = if is_fault p.turn then p ∷ [] else p ∷ until_fault ps
 
--- the output of lines until the run ends
+-- what lines print until the run ends
 abbrev pub lines_until_end : Dress → List Printed → List Printed
 lines_until_end d ps = if d.stop then until_fault ps else ps
 
--- the output of a script; `ps` is the output of its lines if all were run
+-- the output for the script lines ls, which are numbered from 1 on; ps is what these lines print if all of them are run
 abbrev pub dressed_output : Dress → List (List ℕ) → List Printed → List ℕ
 dressed_output d ls ps = dressed_output_from d 1 ls (lines_until_end d ps)
 
--- whether a run ends at a line that is refused or bad; `ps` is the output of the lines if all were run
+-- whether the option `--stop` is given, and one of the lines whose outputs are in ps is refused or bad; then a run of these lines ends at
+-- the first such line
 abbrev pub is_stopped : Dress → List Printed → Bool
 is_stopped d ps = d.stop && list_any (λ p. is_fault p.turn) ps

@@ -4,7 +4,7 @@ use Rattle.std.specs.List.{flat_map}
 use Rattle.script_answers.specs.declared.turn.Turn.{Turn}
 use Rattle.script_answers.specs.declared.turn.Turn.TheVariants as turned
 
--- the output of a line, and how the line is counted
+-- what a line printed, and how the line is counted
 pub record Printed : Type 0 where
   pub text : List ℕ
   pub turn : Turn
@@ -21,7 +21,7 @@ abbrev pub is_lost : Turn → Bool
 is_lost turned.Lost = true
 is_lost _ = false
 
--- whether a line is skipped: it prints nothing
+-- whether a line is skipped; a skipped line prints nothing
 abbrev pub is_blank : Turn → Bool
 is_blank turned.Blank = true
 is_blank _ = false

@@ -8,17 +8,17 @@ use crate::turn::Turn;
 /// What a run writes beside the answers of its lines, and at which line the run ends.
 #[derive(Clone, Copy)]
 pub struct Dress {
-    /// Each line that is not skipped is written before its answer, as `> LINE`.
+    /// Whether each line that is not skipped is written before its answer, as `> LINE`.
     pub echo: bool,
-    /// Each line of an answer begins with the number of the script line that is answered, as `7: ok`. Script lines are counted from 1;
-    /// skipped lines count too.
+    /// Whether each line of an answer begins with the number of the script line that is answered, as `7: ok`. Script lines are counted from
+    /// 1; skipped lines count too.
     pub number: bool,
-    /// The run ends after the first line that is refused or bad.
+    /// Whether the run ends after the first line that is refused or bad.
     pub stop: bool,
 }
 
 impl Dress {
-    /// The answers of all lines, and nothing else.
+    /// No output options: the answers of all lines are written, and nothing else.
     pub fn plain() -> Self
         ensures { result ≡ plain_dress }
     {
@@ -29,7 +29,7 @@ impl Dress {
         }
     }
 
-    /// Whether nothing is written but answers, and all lines are run.
+    /// Whether there are no output options: only answers are written, and all lines are run.
     pub fn is_plain(self) -> bool
         ensures { IsTrue result → self ≡ plain_dress }
     {

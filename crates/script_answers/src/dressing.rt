@@ -14,13 +14,13 @@ use std::io::Write;
 /// The text before a line that is echoed.
 const ECHO: &[u8] = b"> ";
 
-/// The text after the number of a line.
+/// The text between the number of a script line and a line of its answer.
 const NUMBERED: &[u8] = b": ";
 
 /// Ends a line.
 const LINE_END: &[u8] = b"\n";
 
-/// Writes a line of the script, if it is echoed.
+/// Writes a line of the script, if lines are echoed and the line is not skipped.
 fn write_echo<W: Write>(
     writer: &mut W,
     dress: Dress,

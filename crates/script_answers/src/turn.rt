@@ -5,9 +5,9 @@ ghost use Rattle.script_answers.specs.Turns.{is_fault as is_turn_of_fault};
 /// How a line is counted.
 #[derive(Clone, Copy, PartialEq, Eq)]
 pub enum Turn {
-    /// The line is blank.
+    /// The line is empty or has only spaces, and is skipped.
     Blank,
-    /// The line does not parse.
+    /// The line is not UTF-8, or fits no form.
     Bad,
     /// The command of the line was done.
     Done,
@@ -18,7 +18,7 @@ pub enum Turn {
 }
 
 impl Turn {
-    /// Whether the line is refused, or bad.
+    /// Whether the line is bad, or its command was refused for any reason, memory included.
     pub fn is_fault(self) -> bool
         ensures { result ≡ is_turn_of_fault self }
     {

@@ -1,5 +1,5 @@
 -- Numbers of up to nine digits, and what they write.
-use Rattle.std.proofs.Common.{◌∙◌, ◌≡◌, ◌≢◌, ◌&&◌, ◌==◌, ◌+◌, ◌*◌, ◌<◌, ◌≤◌, ◌^◌, ℕ, zero, suc, Bool, true, false, List, [], ◌∷◌, None, Some, ap, arith, cond, drop, get_or, is_some, length, nat_le, nat_lt, neg_ℤ, pos, refl, slice_index, sym, take, true≢false}
+use Rattle.std.proofs.Common.{◌∙◌, ◌≡◌, ◌≢◌, ◌&&◌, ◌==◌, ◌+◌, ◌*◌, ◌<◌, ◌≤◌, ◌^◌, ℕ, zero, suc, Bool, true, false, List, [], ◌∷◌, None, Some, ap, arith, cond, drop, get_or, is_some, length, nat_lt, pos, refl, slice_index, sym, take, true≢false}
 use Rattle.std.specs.Char.{is_ascii_digit}
 use Rattle.std.specs.List.{after_first, before_first, list_all, position_or_len, prefix_len}
 use Rattle.std.specs.Str.Parse.{AllDigits, digits_value}
@@ -112,18 +112,3 @@ natural_is_integer w n minus h =
 single : (b : Bool) (c : ℕ) → (c == 48) ≡ b → digits_value 10 (c ∷ []) ≢ 0 → b ≡ false
 single true c e some = let is : c ≡ 48 = grind (arith, nat_tests) in absurd (some (rw is refl))
 single false c e some = refl
-
-no_zero : (ds : List ℕ) → is_decimal ds ≡ true → digits_value 10 ds ≢ 0 → (slice_index ds 0 == 48) ≡ false
-no_zero [] decimal some = absurd (some refl)
-no_zero (c ∷ []) decimal some = single (c == 48) c refl some
-no_zero (c ∷ d ∷ cs) decimal some = grind (arith, nat_tests)
-
--- a minus and a number other than 0 are read as the negative number
-pub minus_is_integer : (w : List ℕ) (n : ℕ) → slice_index w 0 ≡ 45 → natural_number (drop 1 w) ≡ Some n → n ≢ 0 → integer w ≡ Some (neg_ℤ (pos n))
-minus_is_integer w n minus h some =
-    let ds : List ℕ = drop 1 w in
-    let parts = natural_parts (is_decimal ds) (nat_lt (digits_value 10 ds) (2 ^ 32)) _ n h in
-    let is : (slice_index w 0 == 45) ≡ true = grind (arith, nat_tests) in
-    let first = no_zero ds parts.0 (λ e. some (sym parts.2 ∙ e)) in
-    let low : nat_le (digits_value 10 ds) (2 ^ 63) ≡ true = grind (arith, nat_tests) in
-    rw (is, parts.0, first, low) (ap (λ v. Some (neg_ℤ (pos v))) parts.2)

@@ -1,24 +1,14 @@
 -- Names are ASCII, and a text is the one that serde_json reads.
-use Rattle.std.proofs.Common.{◌≡◌, ◌-◌, ◌&&◌, ◌<◌, ℕ, Bool, true, false, List, Option, None, Some, IsUtf8, arith, cond, length, nat_eq, nat_lt, refl, slice_index}
+use Rattle.std.proofs.Common.{◌≡◌, ◌-◌, ◌&&◌, ℕ, Bool, true, false, List, Option, None, Some, IsUtf8, arith, cond, length, nat_eq, refl, slice_index}
 use Rattle.std.specs.Prelude.{option_and_then}
-use Rattle.std.specs.Str.{IsAscii, is_utf8}
-use Rattle.std.proofs.lemmas.Str.{IsUtf8-from_is_utf8, is_utf8-from_IsUtf8}
-use Rattle.std.proofs.lemmas.Bool.{and_parts}
+use Rattle.std.proofs.lemmas.Str.{is_utf8-from_IsUtf8}
 use Rattle.std.proofs.lemmas.Bool.Decides.{nat_tests}
 use Rattle.serde_json.specs.Data.{Data}
 use Rattle.serde_json.specs.Read.{read}
 use Rattle.serde_json.specs.Find.{as_str}
-use Rattle.mm_types.specs.Names.{is_name, is_name_byte}
-use Rattle.mm_types.proofs.IntegerLemmas.{all_ascii}
 use Rattle.script_lines.specs.Values.{text_in}
 
 -- ---- names
-
-name_byte_ascii : (c : ℕ) → is_name_byte c ≡ true → c < 128
-name_byte_ascii c h = grind (arith, nat_tests)
-
-pub name_ascii : (w : List ℕ) → is_name w ≡ true → IsAscii w
-name_ascii w h = all_ascii is_name_byte name_byte_ascii w (and_parts _ _ (and_parts (nat_lt 0 (length w)) _ h).1).0
 
 -- ---- texts
 
@@ -26,10 +16,6 @@ refused_at : (a b : Bool) (r : Option Data) → (b ≡ true → r ≡ None) → 
 refused_at true true r h = rw (h refl) refl
 refused_at true false r h = refl
 refused_at false b r h = refl
-
--- a word that serde_json refuses is no text
-pub text_refused : (w : List ℕ) → (IsUtf8 w → read w ≡ None) → None ≡ text_in w
-text_refused w h = refused_at (nat_eq (slice_index w (length w - 1)) 34) (is_utf8 w) (read w) (λ e. h (IsUtf8-from_is_utf8 w e))
 
 read_at : (a b : Bool) (r : Option Data) (d : Data) → a ≡ true → b ≡ true → r ≡ Some d → as_str d ≡ cond (a && b) (option_and_then as_str r) None
 read_at a b r d p q e = rw (p, q, e) refl

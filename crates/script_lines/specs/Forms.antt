@@ -92,7 +92,7 @@ removevalue_form n f v = option_map (λ p. asks.At p.0.0 p.0.1 (feature.RemoveVa
 abbrev pub move_form : List ℕ → List ℕ → List ℕ → List ℕ → Option Form
 move_form n f to from = option_map (λ p. asks.At p.0.0.0 p.0.0.1 (feature.Move p.0.1 p.1)) (option_zip (option_zip (feature_in n f) (natural_number to)) (natural_number from))
 
--- whether a word makes an adapter deep: false for `flat`, true for `deep`, none for any other word
+-- whether a word makes a target deep: false for `flat`, true for `deep`, none for any other word
 abbrev pub depth_in : List ℕ → Option Bool
 depth_in w = if bytes_eq w (codes "flat") then Some false else if bytes_eq w (codes "deep") then Some true else None
 
@@ -122,13 +122,13 @@ object_read verb =
     else if bytes_eq verb (codes "fragment") then Some Fragment
     else None
 
--- the forms of a verb and an object
+-- the form of a verb and one argument, for the verbs whose argument is an object; none for any other verb or argument
 abbrev pub with_object : List ℕ → List ℕ → Option Form
 with_object verb o =
     if bytes_eq verb (codes "delete") then delete_form o
     else option_and_then (λ q. option_map (λ x. asks.Read (read.Of x q)) (object_in o)) (object_read verb)
 
--- the forms of a verb and one argument that is a node or an adapter
+-- the form of a verb and one argument, for the verbs whose argument is a node or an adapter; none for any other verb or argument
 abbrev pub with_word : List ℕ → List ℕ → Option Form
 with_word verb a =
     if bytes_eq verb (codes "save") then save_form a
@@ -137,7 +137,7 @@ with_word verb a =
     else if bytes_eq verb (codes "seen") then seen_form a
     else with_object verb a
 
--- the forms of a verb and one argument
+-- the form of a verb and one argument; none if they fit no form
 abbrev pub with_one : List ℕ → List ℕ → Option Form
 with_one verb a =
     if bytes_eq verb (codes "new") then new_form a
@@ -145,7 +145,7 @@ with_one verb a =
     else if bytes_eq verb (codes "at") then at_form a
     else with_word verb a
 
--- the forms of a verb and two arguments
+-- the form of a verb and two arguments; none if they fit no form
 abbrev pub with_two : List ℕ → List ℕ → List ℕ → Option Form
 with_two verb a b =
     if bytes_eq verb (codes "get") then get_form a b
@@ -154,7 +154,7 @@ with_two verb a b =
     else if bytes_eq verb (codes "unwatch") then unwatch_form a b
     else None
 
--- the forms of a verb and three arguments
+-- the form of a verb and three arguments; none if they fit no form
 abbrev pub with_three : List ℕ → List ℕ → List ℕ → List ℕ → Option Form
 with_three verb a b c =
     if bytes_eq verb (codes "set") then set_form a b c
@@ -166,14 +166,14 @@ with_three verb a b c =
     else if bytes_eq verb (codes "watch") then watch_form a b c
     else None
 
--- the forms of a verb and four arguments
+-- the form of a verb and four arguments; none if they fit no form
 abbrev pub with_four : List ℕ → List ℕ → List ℕ → List ℕ → List ℕ → Option Form
 with_four verb a b c d =
     if bytes_eq verb (codes "add") then add_at_form a b c d
     else if bytes_eq verb (codes "move") then move_form a b c d
     else None
 
--- the form of a verb and its arguments
+-- the form of the words of a line: the verb, and then its arguments; none if the words fit no form
 abbrev pub form_of : List (List ℕ) → Option Form
 form_of (verb ∷ []) = lone_verb_form verb
 form_of (verb ∷ a ∷ []) = with_one verb a
@@ -182,7 +182,7 @@ form_of (verb ∷ a ∷ b ∷ c ∷ []) = with_three verb a b c
 form_of (verb ∷ a ∷ b ∷ c ∷ d ∷ []) = with_four verb a b c d
 form_of _ = None
 
--- a line with words, which fits a form or is bad
+-- a line that has words, from the form that it fits; bad if it fits no form
 abbrev pub line_with : Option Form → Line
 line_with None = line.Bad
 line_with (Some f) = line.Form f
@@ -218,6 +218,6 @@ may_load (c ∷ cs) = is_space c || nat_eq c 108
 abbrev pub text_line : List ℕ → Line
 text_line bytes = if is_load bytes then line_with (load_form (after_spaces (behind_verb bytes))) else line_of (words bytes)
 
--- what the bytes of a line ask for
+-- what the bytes of a line ask for; a line that is not UTF-8 is bad
 unfoldable pub form : List ℕ → Line
 form bytes = if is_utf8 bytes then text_line bytes else line.Bad

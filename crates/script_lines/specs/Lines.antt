@@ -1,4 +1,4 @@
--- The lines of a script: each ends with a newline, but the last need not.
+-- The lines of a script. In the script a newline follows each line, except perhaps the last.
 use Rattle.std.specs.Prelude.{ℕ, ◌==◌, ◌≡◌, ◌<◌, ◌++◌, Bool, not, List, [], ◌∷◌, Option, Some, None, length, if◌then◌else◌}
 use Rattle.std.specs.Borrow.{Bor}
 use Rattle.std.specs.List.{after_first, before_first, list_all}
@@ -16,7 +16,7 @@ abbrev pub lines : List ℕ → List (List ℕ)
 lines [] = []
 lines (c ∷ cs) = if is_newline c then [] ∷ lines cs else with_byte c (lines cs)
 
--- the lines, each with a newline after it
+-- the bytes of all lines, with a newline after each line
 abbrev pub with_newlines : List (List ℕ) → List ℕ
 with_newlines [] = []
 with_newlines (l ∷ ls) = l ++ NEWLINE ∷ with_newlines ls
@@ -24,7 +24,8 @@ with_newlines (l ∷ ls) = l ++ NEWLINE ∷ with_newlines ls
 abbrev pub has_no_newline : List ℕ → Bool
 has_no_newline l = list_all (λ c. not (is_newline c)) l
 
--- bytes are cut after their first line: `line` is before the first newline, and `rest` after it
+-- bytes are cut after their first line: `line` has the bytes before the first newline, and `rest` those after it; if there is no newline,
+-- `line` has all bytes, and `rest` none
 pub record IsCut (bytes line rest : List ℕ) : Type 0 where
   pub line_is : line ≡ before_first is_newline bytes
   pub rest_is : rest ≡ after_first is_newline bytes

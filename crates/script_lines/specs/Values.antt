@@ -27,16 +27,16 @@ adapter n = record { 0 = n }
 abbrev pub name_in : List ℕ → Option (List ℕ)
 name_in w = if is_name w then Some w else None
 
--- the text of a word that is a JSON string; none for any other word, and also if white space follows the string
+-- the text of a word that is a JSON string; none for any other word; white space may come before the string, but not after it
 abbrev pub text_in : List ℕ → Option (List ℕ)
 text_in w = if slice_index w (length w - 1) == QUOTE && is_utf8 w then option_and_then as_str (read w) else None
 
--- the text of a word that is a JSON string and begins with a quotation mark
+-- the text of a word that is a JSON string and begins with a quotation mark; none for any other word
 abbrev pub string_in : List ℕ → Option (List ℕ)
 string_in [] = None
 string_in (c ∷ cs) = if c == QUOTE then text_in (c ∷ cs) else None
 
--- whether a byte stands for itself in a JSON string: it is no quotation mark, no backslash and no control character
+-- whether a byte stands for itself in a JSON string: it is at least 32, no quotation mark and no backslash
 abbrev pub is_plain : ℕ → Bool
 is_plain c = nat_le SPACE c && (not (c == QUOTE) && not (c == BACKSLASH))
 

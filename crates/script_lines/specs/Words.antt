@@ -1,5 +1,6 @@
--- The words of a line are separated by spaces. A word that begins with a quotation mark goes on at least to the next quotation mark that no
--- backslash escapes, or to the end of the line if there is none.
+-- The words of a line are separated by spaces. Only a word that begins with a quotation mark may have spaces in it. This word goes on to
+-- the next quotation mark that no backslash escapes, and from there to the next space. If that quotation mark or that space is missing, the
+-- word goes on to the end of the line.
 use Rattle.std.specs.Prelude.{ℕ, zero, suc, ◌==◌, ◌||◌, ◌-◌, ◌&&◌, Bool, true, false, not, List, [], ◌∷◌, length, take, if◌then◌else◌}
 use Rattle.std.specs.List.{position_or_len}
 use Rattle.script_lines.specs.declared.grammar.TheConstants.{BACKSLASH, QUOTE, SPACE}
@@ -7,11 +8,11 @@ use Rattle.script_lines.specs.declared.grammar.TheConstants.{BACKSLASH, QUOTE, S
 abbrev pub is_space : ℕ → Bool
 is_space c = c == SPACE
 
--- whether a byte ends a quotation, or escapes the next byte
+-- whether a byte is a quotation mark or a backslash
 abbrev pub is_mark : ℕ → Bool
 is_mark c = c == QUOTE || c == BACKSLASH
 
--- the bytes after their leading spaces
+-- the bytes without their leading spaces
 abbrev pub after_spaces : List ℕ → List ℕ
 after_spaces [] = []
 after_spaces (c ∷ cs) = if is_space c then after_spaces cs else c ∷ cs
@@ -21,7 +22,8 @@ abbrev pub plain_len : List ℕ → ℕ
 plain_len = position_or_len is_space
 
 -- how many bytes of a word follow the quotation mark with which the word begins: up to the next quotation mark that no backslash escapes,
--- and from there to the next space; `escaped` says whether a backslash escapes the first of the bytes
+-- and from there to the next space, or to the end of the line if that quotation mark or that space is missing; the second argument has all
+-- bytes of the line after the first mark, and `escaped` says whether a backslash escapes the first of these bytes
 abbrev pub quoted_len : Bool → List ℕ → ℕ
 quoted_len escaped [] = 0
 quoted_len true (c ∷ cs) = suc (quoted_len false cs)

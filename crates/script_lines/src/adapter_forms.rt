@@ -5,7 +5,7 @@ ghost use Rattle.script_lines.specs.Forms.{attach_form, depth_in, detach_form, s
 use crate::form::Form;
 use crate::values::{adapter_of, node_of};
 
-/// Whether an adapter is deep, by the word `flat` or `deep`; `None` for any other word.
+/// Whether a target is deep: no for the word `flat`, yes for `deep`; `None` for any other word.
 fn depth_of(word: &str) -> Option<bool>
     ensures { result ≡ depth_in word.now }
 {

@@ -10,7 +10,7 @@ pub enum FeatureForm<'a> {
     Read(EndRead),
     /// The feature gets a single value (EMF: EObject.eSet).
     Set(WrittenValue<'a>),
-    /// The feature is taken back to its default (EMF: EObject.eUnset).
+    /// A single feature is taken back to its default, and a list is emptied (EMF: EObject.eUnset).
     Unset,
     /// A value is put at the end of the feature's list (EMF: EList.add).
     Add(WrittenValue<'a>),
@@ -22,8 +22,8 @@ pub enum FeatureForm<'a> {
     RemoveValue(WrittenValue<'a>),
     /// A value of the feature's list is moved from one index to another; both are counted from 0 (EMF: EList.move).
     Move { to: u32, from: u32 },
-    /// The proxy at an index of a reference, counted from 0, is replaced by the object at the address of the proxy (EMF:
-    /// EcoreUtil.resolve).
+    /// The proxy at an index of a reference is replaced by the object at the address of the proxy (EMF: EcoreUtil.resolve). The index is
+    /// counted from 0; in a single reference it is 0.
     Resolve(u32),
 }
 
@@ -40,17 +40,18 @@ pub enum Form<'a> {
         feature: Name<'a>,
         form: FeatureForm<'a>,
     },
-    /// Makes a resource whose URI a text gives (EMF: ResourceSet.createResource).
+    /// Makes a resource. Its URI is the text after normalisation (EMF: ResourceSet.createResource).
     Resource(Text),
     /// Resolves every proxy, one after another; a proxy that can't be resolved stays as it is (EMF: EcoreUtil.resolveAll).
     ResolveAll,
-    /// Attaches an adapter to a node. A deep adapter is also notified of changes below the node (EMF: Notifier.eAdapters().add).
+    /// Attaches an adapter to a node, which is the adapter's first target (EMF: Notifier.eAdapters().add). If `deep`, the adapter is also
+    /// notified of changes below the node.
     Attach {
         no: AdapterNo,
         target: Node,
         deep: bool,
     },
-    /// Gives an attached adapter one more target (EMF: Notifier.eAdapters().add).
+    /// Gives an attached adapter one more target, flat or deep (EMF: Notifier.eAdapters().add).
     Watch {
         no: AdapterNo,
         target: Node,
@@ -62,13 +63,33 @@ pub enum Form<'a> {
     Detach(AdapterNo),
     /// Destroys an object and all objects below it (EMF: EcoreUtil.delete, recursively).
     Delete(ObjectNo),
-    /// Loads a document into a resource; the line has the text of the document as it is (EMF: Resource.load).
+    /// Loads a document into a resource (EMF: Resource.load). `text` is the document: all bytes of the line after the resource and one
+    /// space.
     Load {
         resource: ResourceNo,
         text: Text,
     },
-    /// A question that names no feature: about an object, a resource, or an address. A question about a feature is a `FeatureForm`.
+    /// A question about an object, a resource, or an address. A question about a feature is an `At` with a `FeatureForm::Read`, and a
+    /// question about an adapter is `Seen`.
     Read(Read),
     /// How many notifications an adapter got, and how many of them it keeps.
     Seen(AdapterNo),
+}
+
+impl<'a> Form<'a> {
+    ghost use Rattle.std.specs.Prelude.{◌≡◌};
+    ghost use Rattle.script_lines.specs.declared.form.Form.TheVariants.{At};
+
+    /// The form that asks something of a feature of a node, or changes the feature. `target` is the node and the name of the feature.
+    #[inline(always)]
+    pub(crate) fn at(target: (Node, Name<'a>), form: FeatureForm<'a>) -> Self
+        ensures { result ≡ At target.entry.0 target.entry.1 form.entry }
+    {
+        let (node, feature) = target;
+        Form::At {
+            node,
+            feature,
+            form,
+        }
+    }
 }

@@ -20,7 +20,7 @@ pub fn a_script_is_its_lines()
 {}
 
 /// The text of a `load` line is all bytes after the one space that follows the resource; further spaces before and after the document
-/// belong to the text. The text may be empty, but a line without that space is bad.
+/// belong to the text. The text may be empty, but a `load` line with no space after the resource is bad.
 pub fn a_load_line_keeps_its_text()
     ensures kept { (word text : List ℕ) (r : ResourceNo) → resource_in word ≡ Some r → list_any is_space word ≡ false
         → let bytes : List ℕ = codes "load " ++ (word ++ SPACE ∷ text) in is_utf8 bytes ≡ true → form bytes ≡ line.Form (asks.Load r text) }

@@ -21,7 +21,7 @@ pub enum Line<'a> {
     Form(Form<'a>),
 }
 
-/// What a line that has words asks for: its form, or `Bad` if it fits no form.
+/// The `Line` for a line that has words, from the form that the line fits; `Bad` if the line fits no form.
 fn line_with(form: Option<Form<'_>>) -> Line<'_>
     ensures { result ≡ the_line_with form.entry }
 {
@@ -31,7 +31,7 @@ fn line_with(form: Option<Form<'_>>) -> Line<'_>
     }
 }
 
-/// What the words of a line ask for.
+/// What the words of a line ask for; `Blank` if there are none.
 fn line_of<'a>(alloc: Global, words: &[&'a str]) -> Result<Line<'a>, AllocError>
     ensures { IfOk result (λ l. l ≡ the_line_of (map (λ w. w.now) words.now)) }
 {
@@ -51,7 +51,7 @@ pub fn text_line_of(alloc: Global, text: &str) -> Result<Line<'_>, AllocError>
     }
 }
 
-/// The text of a line; `None` if the line is not UTF-8 and therefore `Bad`.
+/// The text of a line; `None` if the line is not UTF-8, which makes it a bad line.
 pub(crate) fn text_of_line(line: &[u8]) -> Option<&str>
     ensures { MatchOption result (form line.now ≡ asked.Bad) (λ text. form line.now ≡ text_line text.now) }
 {

@@ -19,7 +19,7 @@ fn after_spaces_of(text: &str) -> &str
     text.trim_start_matches(' ')
 }
 
-/// Whether a line may be a `load` line. Only its first byte is looked at.
+/// Whether a line may be a `load` line, by its first byte alone: a space, or `l`.
 fn may_load(line: &str) -> bool
     ensures { result ≡ the_may_load line.now }
 {
@@ -29,7 +29,7 @@ fn may_load(line: &str) -> bool
     }
 }
 
-/// The verb of a line, and the text after the space that follows the verb; this text is empty if there is no such space.
+/// The verb of a line, and the text after the space that follows the verb; this text is empty if no space follows the verb.
 fn verb_of(line: &str) -> (&str, &str)
     ensures verb { result.0.now ≡ verb_in line.now }
     ensures rest { result.1.now ≡ behind_verb line.now }
@@ -37,8 +37,8 @@ fn verb_of(line: &str) -> (&str, &str)
     cut_at_space(after_spaces_of(line))
 }
 
-/// The text after the verb of a `load` line; `None` for a line with a different verb. Most lines with a different verb are recognised by
-/// their first byte.
+/// The text of a `load` line after its verb and one space; empty if no space follows the verb. `None` for any other line. Most other lines
+/// are recognised by their first byte.
 pub fn loaded_of(line: &str) -> Option<&str>
     ensures { MatchOption result (is_load line.now ≡ false) (λ rest. (is_load line.now ≡ true) × (rest.now ≡ behind_verb line.now)) }
 {
@@ -49,8 +49,8 @@ pub fn loaded_of(line: &str) -> Option<&str>
     if verb == "load" { Some(rest) } else { None }
 }
 
-/// The resource and the text of `load RES REST`, from the text after the verb; `None` if there is no space after RES, or RES is no
-/// resource.
+/// The resource and the text of `load RES REST`, from the text after the verb; `None` if no space follows RES, or RES is not written like
+/// `r0`.
 fn parts_of(rest: &str) -> Option<(ResourceNo, &str)>
     ensures { option_map (λ p. asks.Load p.0 p.1.now) result ≡ load_form (after_spaces rest.now) }
 {
@@ -59,8 +59,8 @@ fn parts_of(rest: &str) -> Option<(ResourceNo, &str)>
     Some((resource, text))
 }
 
-/// The resource and the text of a `load` line; `None` if the line has a different verb, or is bad. A line that begins with a space gives
-/// `None` too: the caller then calls `text_line_of`, so leading spaces are skipped only there.
+/// The resource and the text of a `load` line; `None` for any other line and for a bad `load` line. The result is also `None` if the line
+/// begins with a space. After `None` the caller calls `text_line_of`, which skips leading spaces.
 pub fn load_parts(line: &str) -> Option<(ResourceNo, &str)>
     ensures { IfSome result (λ p. text_line line.now ≡ asked.Form (asks.Load p.0 p.1.now)) }
 {
@@ -73,8 +73,8 @@ pub fn load_parts(line: &str) -> Option<(ResourceNo, &str)>
     }
 }
 
-/// The form of `load RES REST`, from the text after the verb; `None` if there is no space after RES, or RES is no resource. Fails only if
-/// memory is refused for the text.
+/// The form of `load RES REST`, from the text after the verb; `None` if no space follows RES, or RES is not written like `r0`. Fails only
+/// if memory is refused for the text.
 pub fn load_of<'a>(alloc: Global, rest: &str) -> Result<Option<Form<'a>>, AllocError>
     ensures { IfOk result (λ o. o ≡ load_form (after_spaces rest.now)) }
 {

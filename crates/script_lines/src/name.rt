@@ -49,7 +49,7 @@ fn name_len_of(bytes: &[u8]) -> usize
 
 impl<'a> Name<'a> {
     /// Reads a name from the bytes before the first space of a text. Returns the name, and the text after that space. If the text has no
-    /// space, the name is read from the whole text, and the returned text is empty. `None` if the bytes are no name.
+    /// space, the name is read from the whole text, and the returned text is empty. `None` if the bytes that are read are no name.
     pub fn before_space(text: &'a str) -> Option<(Self, &'a str)>
         ensures name { option_map (λ p. p.0) result ≡ name_in (before_first is_space text.now) }
         ensures rest { IfSome result (λ p. p.1.now ≡ after_first is_space text.now) }
@@ -66,7 +66,8 @@ impl<'a> Name<'a> {
         Some((Name { text: name }, rest))
     }
 
-    /// The word as a name, if the word begins with a letter or `_`, and all further bytes are letters, digits or `_`.
+    /// The word as a name; `None` if the word is no name. A name begins with an ASCII letter or `_`, and all its further bytes are ASCII
+    /// letters, digits or `_`.
     pub fn from_word(word: &'a str) -> Option<Self>
         ensures { result ≡ name_in word.now }
     {

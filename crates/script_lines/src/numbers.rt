@@ -26,7 +26,7 @@ fn first_bytes(bytes: &[u8]) -> &[u8]
     }
 }
 
-/// The number that the leading digits write, or 0 if there are none, and how many leading digits there are.
+/// The number that the leading digits write, and how many leading digits there are. The number is 0 if there are none.
 #[inline]
 fn digits_of(bytes: &[u8]) -> (u32, usize)
     requires { length bytes.now ≤ MOST_DIGITS }
@@ -43,8 +43,8 @@ fn digits_of(bytes: &[u8]) -> (u32, usize)
     (number, bytes.len())
 }
 
-/// The number that the leading digits write, and how many digits were read. `None` if there is no leading digit, or if the first of several
-/// digits is 0. At most nine digits are read, so the number may be followed by a digit that was not read.
+/// The number that the leading digits write, and how many digits were read. At most nine digits are read: the number is that of the first
+/// nine, even if more digits follow. `None` if there is no leading digit, or if the first of several digits is 0.
 #[inline]
 pub(crate) fn number_begun(bytes: &[u8]) -> Option<(u32, usize)>
     ensures { IfSome result (λ p. (natural_number (take p.1 bytes.now) ≡ Some p.0) × (p.1 ≤ length bytes.now)) }
@@ -59,7 +59,7 @@ pub(crate) fn number_begun(bytes: &[u8]) -> Option<(u32, usize)>
     Some((number, len))
 }
 
-/// The 32-bit number that a word writes; `None` if the word writes no such number.
+/// The unsigned 32-bit number that a word writes; `None` if the word writes no such number, or writes it with leading zeros.
 #[inline]
 pub fn natural_of(word: &str) -> Option<u32>
     ensures { result ≡ natural_number word.now }
@@ -70,8 +70,8 @@ pub fn natural_of(word: &str) -> Option<u32>
     }
 }
 
-/// Reads a 32-bit number from the bytes before the first space of a text, or from the whole text if it has no space. `None` if these bytes
-/// write no such number. The function is never inlined into the code that reads a number of up to nine digits.
+/// Reads an unsigned 32-bit number from the bytes before the first space of a text, or from the whole text if it has no space. `None` if
+/// these bytes write no such number. The function is never inlined into the code that reads a number of up to nine digits.
 #[inline(never)]
 fn long_number_of(text: &str) -> Option<u32>
     ensures { result ≡ natural_number (before_first is_space text.now) }
@@ -87,8 +87,9 @@ fn behind_space(text: &str) -> &str
     cut_at_space(text).1
 }
 
-/// Reads a 32-bit number from the bytes before the first space of a text. Returns the number, and the text after that space. If the text
-/// has no space, the number is read from the whole text, and the returned text is empty. `None` if the bytes write no such number.
+/// Reads an unsigned 32-bit number from the bytes before the first space of a text. Returns the number, and the text after that space. If
+/// the text has no space, the number is read from the whole text, and the returned text is empty. `None` if the bytes that are read write
+/// no such number.
 #[inline(always)]
 pub fn number_before_space(text: &str) -> Option<(u32, &str)>
     ensures number { option_map (λ p. p.0) result ≡ natural_number (before_first is_space text.now) }
@@ -104,7 +105,7 @@ pub fn number_before_space(text: &str) -> Option<(u32, &str)>
     }
 }
 
-/// The 64-bit number that a word without a minus sign writes; `None` if the word writes no such number.
+/// The signed 64-bit number that a word writes; `None` if the word writes no such number. The word does not begin with a minus sign.
 #[inline]
 fn non_negative_of(word: &str) -> Option<i64>
     requires { slice_index word.now 0 ≢ MINUS }
@@ -116,7 +117,7 @@ fn non_negative_of(word: &str) -> Option<i64>
     }
 }
 
-/// The 64-bit number that a word with a minus sign writes; `None` if the word writes no such number.
+/// The signed 64-bit number that a word writes; `None` if the word writes no such number. The word begins with a minus sign.
 fn negative_of(word: &str) -> Option<i64>
     requires some { 0 < length word.now }
     requires minus { slice_index word.now 0 ≡ MINUS }
@@ -128,7 +129,7 @@ fn negative_of(word: &str) -> Option<i64>
     }
 }
 
-/// The 64-bit number that a word writes, with or without a minus sign; `None` if the word writes no such number.
+/// The signed 64-bit number that a word writes, with or without a minus sign; `None` if the word writes no such number.
 pub(crate) fn int_of(word: &str) -> Option<i64>
     requires { 0 < length word.now }
     ensures { result ≡ integer word.now }

@@ -63,39 +63,24 @@ fn contents_of<'a>(node: &str) -> Option<Form<'a>>
 fn get_of<'a>(node: &str, feature: &'a str) -> Option<Form<'a>>
     ensures { result ≡ get_form node.now feature.now }
 {
-    let (node, feature) = feature_of(node, feature)?;
-    let form = FeatureForm::Read(EndRead::Get);
-    Some(Form::At {
-        node,
-        feature,
-        form,
-    })
+    let target = feature_of(node, feature)?;
+    Some(Form::at(target, FeatureForm::Read(EndRead::Get)))
 }
 
 /// `isset NODE NAME`
 fn isset_of<'a>(node: &str, feature: &'a str) -> Option<Form<'a>>
     ensures { result ≡ isset_form node.now feature.now }
 {
-    let (node, feature) = feature_of(node, feature)?;
-    let form = FeatureForm::Read(EndRead::IsSet);
-    Some(Form::At {
-        node,
-        feature,
-        form,
-    })
+    let target = feature_of(node, feature)?;
+    Some(Form::at(target, FeatureForm::Read(EndRead::IsSet)))
 }
 
 /// `unset NODE NAME`
 fn unset_of<'a>(node: &str, feature: &'a str) -> Option<Form<'a>>
     ensures { result ≡ unset_form node.now feature.now }
 {
-    let (node, feature) = feature_of(node, feature)?;
-    let form = FeatureForm::Unset;
-    Some(Form::At {
-        node,
-        feature,
-        form,
-    })
+    let target = feature_of(node, feature)?;
+    Some(Form::at(target, FeatureForm::Unset))
 }
 
 /// `set NODE NAME VALUE`
@@ -107,15 +92,10 @@ fn set_of<'a>(
 ) -> Result<Option<Form<'a>>, AllocError>
     ensures { IfOk result (λ o. o ≡ set_form node.now feature.now value.now) }
 {
-    let Some(((node, feature), value)) = feature_value_of(alloc, node, feature, value)? else {
+    let Some((target, value)) = feature_value_of(alloc, node, feature, value)? else {
         return Ok(None);
     };
-    let form = FeatureForm::Set(value);
-    Ok(Some(Form::At {
-        node,
-        feature,
-        form,
-    }))
+    Ok(Some(Form::at(target, FeatureForm::Set(value))))
 }
 
 /// `add NODE NAME VALUE`
@@ -127,15 +107,10 @@ fn add_of<'a>(
 ) -> Result<Option<Form<'a>>, AllocError>
     ensures { IfOk result (λ o. o ≡ add_form node.now feature.now value.now) }
 {
-    let Some(((node, feature), value)) = feature_value_of(alloc, node, feature, value)? else {
+    let Some((target, value)) = feature_value_of(alloc, node, feature, value)? else {
         return Ok(None);
     };
-    let form = FeatureForm::Add(value);
-    Ok(Some(Form::At {
-        node,
-        feature,
-        form,
-    }))
+    Ok(Some(Form::at(target, FeatureForm::Add(value))))
 }
 
 /// `add NODE NAME VALUE N`
@@ -151,42 +126,26 @@ fn add_at_of<'a>(
     let Some(index) = natural_of(index) else {
         return Ok(None);
     };
-    let Some(((node, feature), value)) = feature_value_of(alloc, node, feature, value)? else {
+    let Some((target, value)) = feature_value_of(alloc, node, feature, value)? else {
         return Ok(None);
     };
-    let form = FeatureForm::AddAt(index, value);
-    Ok(Some(Form::At {
-        node,
-        feature,
-        form,
-    }))
+    Ok(Some(Form::at(target, FeatureForm::AddAt(index, value))))
 }
 
 /// `remove NODE NAME N`
 fn remove_of<'a>(node: &str, feature: &'a str, index: &str) -> Option<Form<'a>>
     ensures { result ≡ remove_form node.now feature.now index.now }
 {
-    let (node, feature) = feature_of(node, feature)?;
-    let form = FeatureForm::Remove(natural_of(index)?);
-    Some(Form::At {
-        node,
-        feature,
-        form,
-    })
+    let target = feature_of(node, feature)?;
+    Some(Form::at(target, FeatureForm::Remove(natural_of(index)?)))
 }
 
 /// `resolve OBJ NAME N`
 fn resolve_of<'a>(object: &str, feature: &'a str, index: &str) -> Option<Form<'a>>
     ensures { result ≡ resolve_form object.now feature.now index.now }
 {
-    let node = Node::Object(object_of(object)?);
-    let feature = Name::from_word(feature)?;
-    let form = FeatureForm::Resolve(natural_of(index)?);
-    Some(Form::At {
-        node,
-        feature,
-        form,
-    })
+    let target = (Node::Object(object_of(object)?), Name::from_word(feature)?);
+    Some(Form::at(target, FeatureForm::Resolve(natural_of(index)?)))
 }
 
 /// `removevalue NODE NAME VALUE`
@@ -198,15 +157,10 @@ fn removevalue_of<'a>(
 ) -> Result<Option<Form<'a>>, AllocError>
     ensures { IfOk result (λ o. o ≡ removevalue_form node.now feature.now value.now) }
 {
-    let Some(((node, feature), value)) = feature_value_of(alloc, node, feature, value)? else {
+    let Some((target, value)) = feature_value_of(alloc, node, feature, value)? else {
         return Ok(None);
     };
-    let form = FeatureForm::RemoveValue(value);
-    Ok(Some(Form::At {
-        node,
-        feature,
-        form,
-    }))
+    Ok(Some(Form::at(target, FeatureForm::RemoveValue(value))))
 }
 
 /// `move NODE NAME N N`: the first number is the index to which a value is moved, the second number is the index from which the value is
@@ -214,18 +168,13 @@ fn removevalue_of<'a>(
 fn move_of<'a>(node: &str, feature: &'a str, to: &str, from: &str) -> Option<Form<'a>>
     ensures { result ≡ move_form node.now feature.now to.now from.now }
 {
-    let (node, feature) = feature_of(node, feature)?;
+    let target = feature_of(node, feature)?;
     let to = natural_of(to)?;
     let from = natural_of(from)?;
-    let form = FeatureForm::Move { to, from };
-    Some(Form::At {
-        node,
-        feature,
-        form,
-    })
+    Some(Form::at(target, FeatureForm::Move { to, from }))
 }
 
-/// The form of a line that is only a verb: `resolveall`.
+/// The form of a line that is only a verb; `None` for any verb other than `resolveall`.
 fn alone_of<'a>(verb: &str) -> Option<Form<'a>>
     ensures { result ≡ lone_verb_form verb.now }
 {
@@ -255,7 +204,7 @@ fn object_read_of(verb: &str) -> Option<ObjectRead>
     }
 }
 
-/// The form of a verb and an object.
+/// The form of a verb and one argument, for the verbs whose argument is an object; `None` for any other verb or argument.
 fn with_object_of<'a>(verb: &str, object: &str) -> Option<Form<'a>>
     ensures { result ≡ with_object verb.now object.now }
 {
@@ -266,7 +215,7 @@ fn with_object_of<'a>(verb: &str, object: &str) -> Option<Form<'a>>
     Some(Form::Read(Read::Of(object_of(object)?, read)))
 }
 
-/// The form of a verb and one argument that is a node or an adapter.
+/// The form of a verb and one argument, for the verbs whose argument is a node or an adapter; `None` for any other verb or argument.
 fn with_word_of<'a>(verb: &str, word: &str) -> Option<Form<'a>>
     ensures { result ≡ with_word verb.now word.now }
 {
@@ -283,7 +232,7 @@ fn with_word_of<'a>(verb: &str, word: &str) -> Option<Form<'a>>
     }
 }
 
-/// The form of a verb and one argument.
+/// The form of a verb and one argument; `None` if they fit no form.
 fn with_one_of<'a>(alloc: Global, verb: &str, a: &'a str) -> Result<Option<Form<'a>>, AllocError>
     ensures { IfOk result (λ o. o ≡ with_one verb.now a.now) }
 {
@@ -298,7 +247,7 @@ fn with_one_of<'a>(alloc: Global, verb: &str, a: &'a str) -> Result<Option<Form<
     }
 }
 
-/// The form of a verb and two arguments.
+/// The form of a verb and two arguments; `None` if they fit no form.
 fn with_two_of<'a>(verb: &str, a: &str, b: &'a str) -> Option<Form<'a>>
     ensures { result ≡ with_two verb.now a.now b.now }
 {
@@ -315,7 +264,7 @@ fn with_two_of<'a>(verb: &str, a: &str, b: &'a str) -> Option<Form<'a>>
     }
 }
 
-/// The form of a verb and three arguments.
+/// The form of a verb and three arguments; `None` if they fit no form.
 fn with_three_of<'a>(
     alloc: Global,
     verb: &str,
@@ -344,7 +293,7 @@ fn with_three_of<'a>(
     }
 }
 
-/// The form of a verb and four arguments.
+/// The form of a verb and four arguments; `None` if they fit no form.
 fn with_four_of<'a>(
     alloc: Global,
     verb: &str,
@@ -364,7 +313,7 @@ fn with_four_of<'a>(
     }
 }
 
-/// The form of a verb and its arguments.
+/// The form of the words of a line: the verb, and then its arguments. `None` if the words fit no form.
 pub fn form_of<'a>(alloc: Global, words: &[&'a str]) -> Result<Option<Form<'a>>, AllocError>
     ensures { IfOk result (λ o. o ≡ the_form_of (map (λ w. w.now) words.now)) }
 {

@@ -16,7 +16,7 @@ use std::str;
 pub enum Source<'a> {
     /// Bytes that are known to be UTF-8.
     Text(&'a str),
-    /// Bytes of which nothing is known.
+    /// Bytes that are not known to be UTF-8.
     Bytes(&'a [u8]),
 }
 
@@ -42,7 +42,7 @@ fn known_text(text: &str) -> &str
 }
 
 impl<'a> Source<'a> {
-    /// The bytes of a script, which are checked once for UTF-8.
+    /// A source of the bytes of a script. The call checks, once for the whole script, whether the bytes are UTF-8.
     pub fn new(bytes: &'a [u8]) -> Self
         ensures { bytes_of result ≡ bytes.now }
     {
@@ -62,7 +62,8 @@ impl<'a> Source<'a> {
         }
     }
 
-    /// The first line, without its newline, and the bytes after that newline, as `next_line` cuts them; `None` if there are no bytes.
+    /// The first line, without its newline, and the bytes after that newline; `None` if there are no bytes. The cut is that of the function
+    /// `next_line` of this crate.
     pub fn next_line(self) -> Option<(Self, Self)>
         ensures { CutsSource result (bytes_of self.entry) }
     {
@@ -81,7 +82,7 @@ impl<'a> Source<'a> {
         }
     }
 
-    /// The text of a line; `None` if the line is not UTF-8 and therefore bad.
+    /// The text of a line; `None` if the line is not UTF-8, which makes it a bad line.
     pub fn text_of_line(self) -> Option<&'a str>
         ensures { MatchOption result (form (bytes_of self.entry) ≡ asked.Bad) (λ text. form (bytes_of self.entry) ≡ text_line text.now) }
     {

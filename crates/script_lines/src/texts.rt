@@ -19,7 +19,8 @@ fn are_plain(bytes: &[u8]) -> bool
         .all(|b| *b >= SPACE && (*b != QUOTE && *b != BACKSLASH))
 }
 
-/// The text between a word's quotation marks, if the word has both marks and each byte of the text stands for itself.
+/// The text between the quotation marks of a word. `None` if the word does not begin and end with a quotation mark, or if some byte between
+/// them does not stand for itself in a JSON string.
 fn plain_text(word: &str) -> Option<&str>
     ensures { IfSome result (λ t. text_in word.now ≡ Some t.now) }
 {
@@ -34,7 +35,8 @@ fn plain_text(word: &str) -> Option<&str>
     Some(&word[1..len - 1])
 }
 
-/// The text of a JSON value that is a string; `None` for any other value. The text is moved out of the value.
+/// The text of a JSON value that is a string; `None` for any other value. A text of at most 22 bytes is copied, and a longer text is moved
+/// out of the value.
 fn string_of(alloc: Global, value: Value) -> Result<Option<Text>, AllocError>
     ensures { IfOk result (λ o. o ≡ as_str (view value)) }
 {
@@ -61,7 +63,7 @@ fn escaped_text(alloc: Global, word: &str) -> Result<Option<Text>, AllocError>
 
 /// The text of a word that is a JSON string; `None` for any other word.
 ///
-/// A text without escapes is copied as it is: reading it as JSON would take many times as long.
+/// The text of a word without escapes is copied: to read the word as JSON would take many times as long.
 pub fn text_of(alloc: Global, word: &str) -> Result<Option<Text>, AllocError>
     ensures { IfOk result (λ o. o ≡ text_in word.now) }
 {

@@ -58,7 +58,8 @@ pub fn node_of(word: &str) -> Option<Node>
     }
 }
 
-/// A node and the name of a feature, as two words give them: `#3 pages`. It is not checked whether the node has such a feature.
+/// A node and the name of a feature, as two words give them: `#3 pages`. The call does not check whether the node has a feature of this
+/// name.
 pub fn feature_of<'a>(node: &str, name: &'a str) -> Option<(Node, Name<'a>)>
     ensures { result ≡ feature_in node.now name.now }
 {
@@ -85,7 +86,7 @@ fn text_value_of(alloc: Global, word: &str) -> Result<Option<WrittenValue<'_>>, 
     }
 }
 
-/// The value that the word `null`, `true` or `false` writes; `None` for any other word.
+/// The value of the word `null`, `true` or `false`; `None` for any other word.
 fn word_value_of(word: &str) -> Option<WrittenValue<'_>>
     ensures { result ≡ word_value_in word.now }
 {
@@ -101,7 +102,7 @@ fn word_value_of(word: &str) -> Option<WrittenValue<'_>>
     None
 }
 
-/// The 64-bit number that a word writes, as a value; `None` if the word writes no such number.
+/// The signed 64-bit number that a word writes, as a value; `None` if the word writes no such number.
 #[inline(always)]
 fn number_value_of(word: &str) -> Option<WrittenValue<'_>>
     requires { 0 < length word.now }
@@ -110,8 +111,8 @@ fn number_value_of(word: &str) -> Option<WrittenValue<'_>>
     Some(WrittenValue::Int(int_of(word)?))
 }
 
-/// The value of a word that begins with no quotation mark, no minus sign and no digit: a literal after `:`, an object after `#`, or `null`,
-/// `true` or `false`. `None` for any other word.
+/// The value of a word: a literal after `:`, an object after `#`, or `null`, `true` or `false`; `None` if the word is none of them. The
+/// word does not begin with a quotation mark, a minus sign or a digit.
 fn marked_value_of(word: &str) -> Option<WrittenValue<'_>>
     requires some { 0 < length word.now }
     requires no_text { slice_index word.now 0 ≢ QUOTE }
@@ -126,8 +127,8 @@ fn marked_value_of(word: &str) -> Option<WrittenValue<'_>>
     }
 }
 
-/// The value of a word that begins with no minus sign and no digit; `None` if the word writes no value. The function is never inlined into
-/// the code that reads a number.
+/// The value that a word writes; `None` if the word writes no value. The word does not begin with a minus sign or a digit. The function is
+/// never inlined into the code that reads a number.
 #[inline(never)]
 fn other_value_of(alloc: Global, word: &str) -> Result<Option<WrittenValue<'_>>, AllocError>
     requires some { 0 < length word.now }
@@ -141,7 +142,7 @@ fn other_value_of(alloc: Global, word: &str) -> Result<Option<WrittenValue<'_>>,
     Ok(marked_value_of(word))
 }
 
-/// The value that a word writes; `None` if the word writes no value. The first byte of the word says which kind of value it is.
+/// The value that a word writes; `None` if the word writes no value. The first byte of the word decides which kind of value is read.
 #[inline(always)]
 pub fn value_of(alloc: Global, word: &str) -> Result<Option<WrittenValue<'_>>, AllocError>
     ensures { IfOk result (λ o. o ≡ value_in word.now) }

@@ -1,5 +1,6 @@
-//! A line is cut into words at its spaces. A word that begins with a quotation mark goes on at least to the next quotation mark that no
-//! backslash escapes, or to the end of the line if there is none.
+//! A line is cut into words at its spaces. Only a word that begins with a quotation mark may have spaces in it. This word goes on to the
+//! next quotation mark that no backslash escapes, and from there to the next space. If that quotation mark or that space is missing, the
+//! word goes on to the end of the line.
 ghost use Rattle.std.specs.Prelude.{◌≡◌, ◌<◌, ◌≤◌, ◌+◌, drop, false, length, map, position, slice_index, take};
 ghost use Rattle.std.specs.List.{after_first, before_first};
 ghost use Rattle.std.specs.Str.{IsUtf8, bytes_eq};
@@ -33,9 +34,9 @@ fn first_mark(bytes: &[u8]) -> Option<usize>
     bytes.iter().position(|b| *b == QUOTE || *b == BACKSLASH)
 }
 
-/// How many bytes of a word follow the quotation mark with which the word begins; `bytes` are the bytes after that mark. Most words have no
-/// escape, so the next quotation mark usually ends the quotation. The function is never inlined into the code that reads a word without
-/// quotation marks.
+/// How many bytes of a word follow the quotation mark with which the word begins; `bytes` has all bytes of the line after that mark. Most
+/// words have no escape, so the next quotation mark usually ends the quotation. The function is never inlined into the code that reads a
+/// word without quotation marks.
 #[inline(never)]
 fn quoted_len_of(bytes: &[u8]) -> usize
     ensures value { result ≡ quoted_len false bytes.now }
@@ -48,8 +49,8 @@ fn quoted_len_of(bytes: &[u8]) -> usize
     }
 }
 
-/// How many bytes a word has after the quotation mark with which it begins. `bytes` has the bytes after this mark. The word may have
-/// escapes.
+/// How many bytes of a word follow the quotation mark with which the word begins; `bytes` has all bytes of the line after that mark. The
+/// word may have escapes.
 fn escaped_len_of(bytes: &[u8]) -> usize
     ensures value { result ≡ quoted_len false bytes.now }
     ensures within { result ≤ length bytes.now }
@@ -112,7 +113,8 @@ pub fn cut_at(text: &str, len: usize) -> (&str, &str)
     }
 }
 
-/// The text before the first space, and the text after that space, which is empty if there is no space.
+/// The text before the first space, and the text after that space. If there is no space, the first text is the whole text, and the second
+/// is empty.
 pub fn cut_at_space(text: &str) -> (&str, &str)
     ensures before { result.0.now ≡ before_first is_space text.now }
     ensures after { result.1.now ≡ after_first is_space text.now }
@@ -120,7 +122,7 @@ pub fn cut_at_space(text: &str) -> (&str, &str)
     cut_at(text, plain_len_of(text.as_bytes()))
 }
 
-/// Whether a word is the verb `verb`. The function is inlined, so no call is made if `word` and `verb` differ in length.
+/// Whether a word is the verb `verb`. The function is inlined, so that words of different lengths are compared without a call.
 #[inline(always)]
 pub(crate) fn is_verb(word: &str, verb: &str) -> bool
     ensures { result ≡ bytes_eq word.now verb.now }
@@ -145,7 +147,8 @@ pub fn after_byte(text: &str) -> &str
     &text[1..]
 }
 
-/// How many words of a line are looked at: one more than the longest form has, since a line of more words fits no form.
+/// How many words of a line are looked at: one more than the longest form has. A line that has so many words fits no form. A `load` line is
+/// cut into words only to explain why it is bad.
 pub const MOST_WORDS: usize = 6;
 
 /// The first words of a line, at most `MOST_WORDS` of them.

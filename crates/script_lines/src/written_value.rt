@@ -2,8 +2,8 @@
 use crate::name::Name;
 use mm_types::{ObjectNo, Text};
 
-/// A value as it is written in a line. For a literal, the feature's type decides which value of the feature is meant. Any other written
-/// value stands for the same value under each feature.
+/// A value as it is written in a line. A literal is only a name: the type of the feature that gets the value decides which literal has this
+/// name. Any other written value stands for the same value, whatever the feature is.
 #[derive(Drop)]
 pub enum WrittenValue<'a> {
     /// `null`

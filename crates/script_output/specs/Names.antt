@@ -11,7 +11,7 @@ use Rattle.mm_types.specs.declared.numbers.FeatureNo.{FeatureNo}
 use Rattle.mm_types.specs.declared.value.Value.{Value}
 use Rattle.mm_types.specs.declared.value.Value.TheVariants as value
 
--- the name of a feature of the metamodel; for any other number `contents`, the only feature of resources
+-- the name of the feature with a given number; `contents`, the only feature of resources, if no feature of the metamodel has the number
 abbrev pub feature_name : Metamodel → FeatureNo → List ℕ
 feature_name m f = option_map_or (λ g. g.name) (lookups.feature m f) (codes "contents")
 
@@ -30,7 +30,7 @@ enum_of_kind (Reference target containment opposite) = None
 abbrev pub enum_of : Metamodel → FeatureNo → Option ℕ
 enum_of m f = option_and_then (λ g. enum_of_kind g.kind) (lookups.feature m f)
 
--- the name of a literal that is a feature's value; empty if the value is no literal, or no literal of the feature's type
+-- the name of a feature's value, if the value is a literal of the feature's type; empty for any other value
 abbrev pub literal_name : Metamodel → FeatureNo → Value → List ℕ
 literal_name m f value.Null = []
 literal_name m f (value.Bool b) = []

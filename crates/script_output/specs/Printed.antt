@@ -1,4 +1,4 @@
--- What is printed for values, nodes, classes and refusals.
+-- What is printed for values, nodes, adapters, features, classes and refusals.
 use Rattle.std.specs.Prelude.{ℕ, true, false, List, [], ◌∷◌, ◌++◌, flat_map, Option, Some, None, codes}
 use Rattle.std.specs.Fmt.{decimal, signed_decimal}
 use Rattle.serde_json.specs.Data.{string}
@@ -88,7 +88,7 @@ holder_text (Some n) = node_text n
 abbrev pub class_text : Metamodel → ClassNo → List ℕ
 class_text m c = codes "class " ++ class_name m c
 
--- a space, and the number and the name of the fault of a document, such as ` 10 ONE_SIDED`
+-- a space, the number of a fault of a document, and the name of the fault, such as ` 10 ONE_SIDED`
 abbrev pub cause_detail : DocFault → List ℕ
 cause_detail cause = SPACE ∷ cause_text cause
 

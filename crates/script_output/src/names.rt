@@ -5,7 +5,7 @@ ghost use Rattle.script_output.specs.Names as n;
 use mm_meta::Meta;
 use mm_types::{ClassNo, DataType, FeatureNo, Kind, Value};
 
-/// The name of a feature of the metamodel; for any other number `contents`, the only feature of resources.
+/// The name of the feature with a given number; `contents`, the only feature of resources, if no feature of the metamodel has the number.
 pub fn feature_name(meta: &Meta, feature: FeatureNo) -> &str
     ensures { result.now ≡ n.feature_name meta.now feature }
 {
@@ -40,7 +40,7 @@ fn enum_of_type(value_type: DataType) -> Option<u32>
     }
 }
 
-/// The name of a literal that is a feature's value; empty if the value is no literal, or no literal of the feature's type.
+/// The name of a feature's value, if the value is a literal of the feature's type; empty for any other value.
 pub fn literal_name<'a>(meta: &'a Meta, feature: FeatureNo, value: &Value) -> &'a str
     ensures { result.now ≡ n.literal_name meta.now feature value.now }
 {

@@ -69,7 +69,8 @@ impl Output {
         self.bytes.extend_from_slice(text.as_bytes())
     }
 
-    /// Adds a short text byte by byte. If the compiler knows the text, this takes fewer steps than a copy.
+    /// Adds a short text byte by byte. If the text is known when the caller is compiled, this takes fewer steps than the method `text`,
+    /// which copies the bytes as one block.
     #[inline(always)]
     pub fn short_text(&mut self, text: &str) -> Result<(), AllocError>
         ensures ok { OnOk result (self.new ≡ self.old ++ text.now) }
@@ -104,8 +105,8 @@ impl Output {
         self.long_natural(n)
     }
 
-    /// Adds a number in decimal, by way of a buffer. The function is never inlined into the code that adds a short number, since that code
-    /// would then clear the buffer too.
+    /// Adds a number in decimal, by way of a buffer. The function is never inlined into `natural`: if it were, `natural` would clear the
+    /// buffer for a short number too.
     #[inline(never)]
     fn long_natural(&mut self, n: u64) -> Result<(), AllocError>
         ensures ok { OnOk result (self.new ≡ self.old ++ decimal n) }
@@ -114,7 +115,7 @@ impl Output {
         self.text(buffer.format(n))
     }
 
-    /// Adds a number of up to three digits.
+    /// Adds a number of up to three digits in decimal.
     fn short_natural(&mut self, n: u64) -> Result<(), AllocError>
         requires { n < 1000 }
         ensures ok { OnOk result (self.new ≡ self.old ++ decimal n) }
@@ -126,7 +127,7 @@ impl Output {
         self.digit(n % 10)
     }
 
-    /// Adds a number of up to two digits.
+    /// Adds a number of up to two digits in decimal.
     fn tens(&mut self, n: u64) -> Result<(), AllocError>
         requires { n < 100 }
         ensures ok { OnOk result (self.new ≡ self.old ++ decimal n) }
@@ -138,7 +139,7 @@ impl Output {
         self.digit(n % 10)
     }
 
-    /// Adds a number that mostly has one digit.
+    /// Adds a number in decimal, for callers whose numbers mostly have one digit.
     #[inline(always)]
     fn brief(&mut self, n: u64) -> Result<(), AllocError>
         ensures ok { OnOk result (self.new ≡ self.old ++ decimal n) }
@@ -177,7 +178,7 @@ impl Output {
         }
     }
 
-    /// Adds a text in quotation marks, as it is.
+    /// Adds a text in quotation marks, without escapes.
     fn quoted(&mut self, text: &str) -> Result<(), AllocError>
         ensures ok { OnOk result (self.new ≡ self.old ++ QUOTE ∷ (text.now ++ QUOTE ∷ [])) }
     {
@@ -297,14 +298,15 @@ fn push_bytes(bytes: &mut Vec<u8>, added: &[u8])
     }
 }
 
-/// Whether a byte is escaped in a JSON string.
+/// Whether a byte has to be escaped in a JSON string.
 fn is_escaped(byte: u8) -> bool
     ensures { result ≡ is_stop byte }
 {
     byte == b'"' || byte == b'\\' || byte < 32
 }
 
-/// Whether some byte of a text is escaped in a JSON string. The loop does not stop at the first escaped byte, so that it can be vectorised.
+/// Whether some byte of a text has to be escaped in a JSON string. The loop does not stop at the first such byte, so that the compiler can
+/// vectorise the loop.
 fn has_escaped(bytes: &[u8]) -> bool
     ensures { result ≡ list_any is_stop bytes.now }
 {

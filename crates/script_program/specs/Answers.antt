@@ -22,7 +22,7 @@ use Rattle.script_output.specs.Notified.{notice_text, released_text}
 use Rattle.script_output.specs.Printed.{class_text, features_text, holder_text, json_text, list_text, node_text, objects_text, refused_text, value_text}
 use Rattle.script_program.specs.declared.bind.TheConstants.{NOTHING}
 
--- the feature that a command names; if it names none, a number that no feature has
+-- the feature that a command names; if the command names none, the number NOTHING, which no feature has
 abbrev pub feature_of : Command View → FeatureNo
 feature_of (command.At e a) = e.feature
 feature_of (command.Read (read.At e q)) = e.feature
@@ -32,7 +32,7 @@ feature_of _ = record { 0 = NOTHING }
 abbrev pub resolved_text : ℕ → ℕ → List ℕ
 resolved_text done left = codes "resolved " ++ (decimal done ++ (codes " left " ++ decimal left))
 
--- the text of an answer to a command; f is `feature_of` of the command
+-- the text of an answer to a command; f is the value of `feature_of` for the command
 abbrev pub answer_text : Metamodel → FeatureNo → Answer → List ℕ
 answer_text m f answer.Done = codes "ok"
 answer_text m f (answer.Object o) = node_text (node.Object o)
@@ -73,7 +73,7 @@ notified_text m told released = told_text m told ++ all_released_text released
 abbrev pub refusal_line : Refused → List ℕ
 refusal_line r = refused_text r ++ NEWLINE ∷ []
 
--- the lines that a command prints
+-- the lines that a command prints, by its outcome; f is the value of `feature_of` for the command
 abbrev pub outcome_text : Metamodel → FeatureNo → Outcome → List ℕ
 outcome_text m f (Ok r) = answer_line m f r.answer ++ notified_text m r.told r.released
 outcome_text m f (Err e) = refusal_line e.refused

@@ -15,7 +15,8 @@ use Rattle.script_program.specs.declared.summary.Summary.{Summary}
 use Rattle.script_answers.specs.declared.turn.Turn.{Turn}
 use Rattle.script_streams.specs.Streams.{AppendsFront}
 
--- The first lines of a script were run, none of them after a line that ends the run; the other lines were not run.
+-- The first lines of a script were run, and the other lines were not. If one of the lines that were run ends the run, it is the last of
+-- them.
 pub record RunsFirst (d : Dress) (s : Session) (bytes : List ℕ) (first rest : List (List ℕ)) (printed : List Printed) (t : Session) : Type 0 where
   pub lines_are : lines bytes ≡ first ++ rest
   pub ran : RunsLines s first printed t
@@ -28,7 +29,8 @@ pub record AnswersLine (d : Dress) (number : ℕ) (line : List ℕ) (s : Session
   pub counted : printed.turn ≡ turn
   pub written : Appends old new (dressed_line d number line printed)
 
--- A line was run, a prefix of its output was written as the output options say, and `Left` is true of the session after the line.
+-- A line was run. The output options give the text that is written for the line; a prefix of this text was written. `Left` is true of the
+-- session after the line.
 pub record AnswersFront (d : Dress) (number : ℕ) (line : List ℕ) (s : Session) (Left : Session → Type 0) (old new : Option (List ℕ)) : Type 0 where
   pub printed : Printed
   pub after : Session
@@ -49,8 +51,8 @@ EndsIn q t = t.state ≡ q
 abbrev pub EndsAnywhere : Session → Type 0
 EndsAnywhere t = Unit {0}
 
--- A script was run to its end, or to the refused or bad line at which the option `stop` ends the run; the answers were written as the
--- output options say, the counts are the counts of the answers, and `Left` is true of the session after the run.
+-- A script was run to its end, or to the refused or bad line at which the option `stop` ends the run. The answers were written as the
+-- output options say. `summary` has the counts of the lines that were run. `Left` is true of the session after the run.
 pub record PrintsDressed (d : Dress) (s : Session) (Left : Session → Type 0) (old new : Option (List ℕ)) (bytes : List ℕ) (summary : Summary) : Type 0 where
   pub first : List (List ℕ)
   pub printed : List Printed
@@ -60,8 +62,8 @@ pub record PrintsDressed (d : Dress) (s : Session) (Left : Session → Type 0) (
   pub counted : summary_of printed ≡ summary
   pub written : Appends old new (dressed_output d first printed)
 
--- The first lines of a script were run, a prefix of their answers was written as the output options say, and `Left` is true of the session
--- after these lines.
+-- The first lines of a script were run. The output options give the text that is written for these lines; a prefix of this text was
+-- written. `Left` is true of the session after these lines.
 pub record PrintsDressedFront (d : Dress) (s : Session) (Left : Session → Type 0) (old new : Option (List ℕ)) (bytes : List ℕ) : Type 0 where
   pub first : List (List ℕ)
   pub rest : List (List ℕ)
@@ -71,7 +73,7 @@ pub record PrintsDressedFront (d : Dress) (s : Session) (Left : Session → Type
   pub ran : RunsFirst d s bytes first rest printed after
   pub written : AppendsFront old new (dressed_output d first printed)
 
--- If the input is known, it is within its limit, and was run to its end or to the line at which the option `stop` ends the run.
+-- If the input is known, it has at most INPUT_BYTES bytes, it was run, and its answers were written, as `PrintsDressed` says.
 abbrev pub PrintsInputDressed : Dress → Option (List ℕ) → Session → (Session → Type 0) → Option (List ℕ) → Option (List ℕ) → Summary → Type 0
 PrintsInputDressed d input s Left old new summary = IfSome input (λ bytes. (length bytes ≤ INPUT_BYTES) × PrintsDressed d s Left old new bytes summary)
 

@@ -36,8 +36,8 @@ use Rattle.script_program.specs.declared.request.Request.TheVariants as request
 abbrev pub class_number : Metamodel → List ℕ → ClassNo
 class_number m name = unwrap_or (lookups.class_by_name m name) (record { 0 = NOTHING })
 
--- the number of the feature called `name`: a feature of the object's class, or `contents` of a resource; NOTHING if the node has no feature
--- with this name
+-- the number of the feature called `name` that a node has: for an object a feature of its class, for a resource `contents`; NOTHING if the
+-- node has no feature with this name
 abbrev pub feature_number : State → Node → List ℕ → FeatureNo
 feature_number s (node.Object o) name =
     unwrap_or (option_and_then (λ c. lookups.feature_by_name s.model.metamodel c name) ((reads s).class o)) (record { 0 = NOTHING })
@@ -46,7 +46,7 @@ feature_number s (node.Resource r) name = if bytes_eq name (codes "contents") th
 abbrev pub literal_number : Metamodel → FeatureNo → List ℕ → ℕ
 literal_number m f name = unwrap_or (option_and_then (λ e. lookups.literal_by_name m e name) (enum_of m f)) NOTHING
 
--- the value that a written value gives for a feature
+-- the value that a written value stands for under a feature; an unknown literal gets the number NOTHING
 abbrev pub value_in : Metamodel → FeatureNo → WrittenValue → Value
 value_in m f written.Null = value.Null
 value_in m f (written.Bool b) = value.Bool b
@@ -55,22 +55,17 @@ value_in m f (written.Text t) = value.Text t
 value_in m f (written.Literal name) = value.Literal (literal_number m f name)
 value_in m f (written.Object o) = value.Object o
 
--- the value that a written value gives for the named feature of a node
+-- the value that a written value stands for under the feature called `name` of a node
 abbrev pub named_value : State → Node → List ℕ → WrittenValue → Value
 named_value s n name v = value_in s.model.metamodel (feature_number s n name) v
 
 abbrev pub create_command : {A : Type 0} → Metamodel → List ℕ → Command A
 create_command m name = command.Create (class_number m name)
 
--- the end that consists of a node and of its feature with a given name; the feature has the number NOTHING if the node has no such feature
+-- the end that consists of a node and of its feature with a given name; if the node has no feature with this name, the end has the feature
+-- number NOTHING
 abbrev pub named_end : State → Node → List ℕ → End
 named_end s n name = at_end n (feature_number s n name)
-
-abbrev pub set_command : {A : Type 0} → State → Node → List ℕ → WrittenValue → Command A
-set_command s n name v = command.At (named_end s n name) (act.Set (named_value s n name v))
-
-abbrev pub add_command : {A : Type 0} → State → Node → List ℕ → WrittenValue → Option ℕ → Command A
-add_command s n name v index = command.At (named_end s n name) (act.Add (named_value s n name v) index)
 
 -- the command that asks something of an end, or changes the end
 abbrev pub at_command : {A : Type 0} → Metamodel → End → FeatureForm → Command A
@@ -84,7 +79,8 @@ at_command m e (form.RemoveValue v) = command.At e (act.RemoveValue (value_in m 
 at_command m e (form.Move to from) = command.At e (act.Move to from)
 at_command m e (form.Resolve i) = command.At e (act.Resolve i)
 
--- the request to attach an adapter of the pool; if the pool can't give the adapter, the repository is not called
+-- the request to attach an adapter of the pool. The first argument is the adapter, or a refusal if the pool can't give the adapter. After a
+-- refusal the repository is not called
 abbrev pub attach_request : Result View Refused → AdapterNo → Node → Bool → Request View
 attach_request (Ok v) number target deep = request.Execute (command.Attach number target deep v)
 attach_request (Err r) number target deep = request.Refuse r
@@ -103,19 +99,19 @@ bind s (asks.Delete o) = request.Execute (command.Delete o)
 bind s (asks.Read q) = request.Execute (command.Read q)
 bind s (asks.Seen number) = request.Seen number
 
--- the pool without the adapter that a request takes out of it
+-- the pool without the adapter that a request attaches; the pool as it is if the request attaches no adapter
 abbrev pub pool_of : Pool → Request View → Pool
 pool_of pool (request.Execute c) = pool_after_take pool c
 pool_of pool (request.Seen number) = pool
 pool_of pool (request.Refuse r) = pool
 
--- if a request takes an adapter out of the pool, the adapter is in the pool
+-- if a request attaches an adapter, the pool has this adapter under its number
 abbrev pub IsGiven : Pool → Request View → Type 0
 IsGiven pool (request.Execute c) = IsBrought pool c
 IsGiven pool (request.Seen number) = Unit {0}
 IsGiven pool (request.Refuse r) = Unit {0}
 
--- a request with the views instead of adapters
+-- a request with the view of its adapter in place of the adapter
 abbrev pub request_view : {A : Type 0} → (A → View) → Request A → Request View
 request_view heard (request.Execute c) = request.Execute (command_view heard c)
 request_view heard (request.Seen number) = request.Seen number

@@ -54,13 +54,13 @@ abbrev pub line_asks : Line → Bool
 line_asks (line.Form f) = asks_change f
 line_asks _ = false
 
--- how a line counts for a journal, by whether the line asks for a change, and by how its output is counted
+-- how a line counts for a journal; the first argument says whether the line asks for a change, and the second how the line is counted
 abbrev pub journal_turn : Bool → Turn → JournalTurn
 journal_turn asked turned.Done = if asked then journaled.Kept else journaled.Other
 journal_turn asked turned.Lost = journaled.Lost
 journal_turn asked _ = journaled.Other
 
--- the output of a line, as a journal counts it
+-- the output of a line, with how the line counts for a journal
 abbrev pub journal_printed : List ℕ → Printed → durable.Printed
 journal_printed l p = record { text = p.text; turn = journal_turn (line_asks (form l)) p.turn }
 
@@ -75,13 +75,13 @@ lines_run j = j.lines
 abbrev pub has_fault : {L A H : Type 0} → Journaled L A H → Bool
 has_fault j = j.is_faulty
 
--- A line was run, and p is its output as a journal counts it.
+-- A line was run, and p is its output, with how the line counts for a journal.
 pub record RunsJournaled (s : Session) (l : List ℕ) (p : durable.Printed) (t : Session) : Type 0 where
   pub printed : Printed
   pub ran : RunsLine s (form l) printed t
   pub counted : p ≡ journal_printed l printed
 
--- the lines that are kept; whether a line is kept depends on the line and on how its output is counted
+-- the lines that are kept; ps says what each line printed and how the line is counted, and a line without an entry in ps is not kept
 abbrev pub kept_lines : List (List ℕ) → List Printed → List (List ℕ)
 kept_lines [] ps = []
 kept_lines (l ∷ ls) [] = []
@@ -139,7 +139,7 @@ pub record StopsJournaled (m : Metamodel) (fault : RunFault) (s : Session) (ls :
   pub written : WritesUntil fault next old new (live_text printed)
   pub left : (c : List ℕ) → may_leave c → Recalls m after.state.model c ⊎ Recalls m after_next.state.model c
 
--- A file is a journal of the model that the first lines of `ls` left, however many these are.
+-- A file is a journal of the model that the first n lines of ls left, for some n.
 pub record LeavesJournaled (m : Metamodel) (s : Session) (ls : List (List ℕ)) (file : List ℕ) : Type 0 where
   pub first : List (List ℕ)
   pub rest : List (List ℕ)
@@ -151,7 +151,7 @@ pub record LeavesJournaled (m : Metamodel) (s : Session) (ls : List (List ℕ)) 
 
 -- ---- a run that first runs the lines of a file again
 
--- the outcome of a run whose journal was opened
+-- the outcome of a run whose journal was opened; a fault of the script's run is `Stopped`
 abbrev pub kept_outcome : Result (Unit {0}) RunFault → Result (Unit {0}) KeptFault
 kept_outcome (Ok done) = Ok done
 kept_outcome (Err fault) = Err (stopping.Stopped fault)
@@ -168,20 +168,20 @@ pub record StopsKept (m : Metamodel) (fault : RunFault) (head file : List ℕ) (
   pub had : model_of m (begun_lines head (recovered_lines file)) ≡ Some start.state.model
   pub stops : StopsJournaled m fault start ls old new may_leave
 
--- The lines of a file were run, and then the first lines of ls were run; the file `left` is a journal of the model that all these lines
--- left.
+-- The lines of a file were run, and then the first n lines of ls were run, for some n. The file `left` is a journal of the model that all
+-- these lines left.
 pub record LeavesKept (m : Metamodel) (head file : List ℕ) (ls : List (List ℕ)) (left : List ℕ) : Type 0 where
   pub start : Session
   pub had : model_of m (begun_lines head (recovered_lines file)) ≡ Some start.state.model
   pub leaves : LeavesJournaled m start ls left
 
--- `left` is a file that a crash at any moment of a run may leave. It has the lines of `file`, or only the head if `file` has no line; or it
--- is a journal of the model that the first lines of the input left, however many these are. Nothing is said of `left` if the input is not
--- known
+-- what is true of the file `left` that a crash at any moment of a run leaves. Either `left` has the lines of `file`, or only the head if
+-- `file` has no line. Or `left` is a journal of the model after the lines of `file` and the first n lines of the input were run, for some
+-- n; nothing is said of this second case if the input is not known
 abbrev pub LeavesKeptIn : Metamodel → List ℕ → List ℕ → Option (List ℕ) → List ℕ → Type 0
 LeavesKeptIn m head file input left = IsBegunOrNot head (recovered_lines file) left ⊎ IfSome input (λ bytes. LeavesKept m head file (lines bytes) left)
 
--- a file begins with a head, and the lines after it leave a model
+-- the first line of `file` is the head, and the lines after the head leave the model `model`
 pub record IsJournalOf (m : Metamodel) (head file : List ℕ) (model : Model) : Type 0 where
   pub lines_after : List (List ℕ)
   pub lines_are : recovered_lines file ≡ head ∷ lines_after

@@ -19,7 +19,7 @@ abbrev pub len_printed : Result ℕ Refused → Printed
 len_printed (Ok n) = record { text = decimal n ++ NEWLINE ∷ []; turn = turned.Done }
 len_printed (Err r) = refused_printed r
 
--- what is printed for one value of a list: the same as for a read of a single feature
+-- what is printed for a read of one value of a list: the value, as a read of a single feature prints it, or the refusal
 abbrev pub value_printed : Metamodel → FeatureNo → Result Value Refused → Printed
 value_printed m f (Ok v) = record { text = read_text m f v; turn = turned.Done }
 value_printed m f (Err r) = refused_printed r

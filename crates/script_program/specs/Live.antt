@@ -32,7 +32,7 @@ pub record AnswersLive (line : List ℕ) (s : Session) (old new : Option (List �
   pub counted : printed.turn ≡ turn
   pub written : Appends old new (live_answer printed)
 
--- A line was run, and a prefix of its answer with the empty line was written.
+-- A line was run. The text that is written for the line is its answer and an empty line; a prefix of this text was written.
 pub record AnswersLiveFront (line : List ℕ) (s : Session) (old new : Option (List ℕ)) : Type 0 where
   pub printed : Printed
   pub after : Session

@@ -1,5 +1,5 @@
--- What a script prints, as a function of the session before, of the bytes of the script, and of the numbers of its lost lines. A line is
--- lost if its command fails with MEMORY.
+-- What a script prints, as a function of the session before the run, of the bytes of the script, and of the numbers of its lost lines. A
+-- line is lost if its command fails with MEMORY.
 use Rattle.std.specs.Prelude.{◌==◌, ℕ, suc, Bool, true, false, IsTrue, List, [], ◌∷◌, slice_get, Err, if◌then◌else◌}
 use Rattle.std.specs.List.{All, list_any}
 use Rattle.std.specs.List.Sorted.{IsStrictlyIncreasing}
@@ -48,7 +48,8 @@ run_line lost s (line.Form f) = run_request lost s (bind s f)
 abbrev pub is_in : List ℕ → ℕ → Bool
 is_in m k = list_any (λ j. j == k) m
 
--- the output of lines whose numbers go up from k, if exactly the lines with numbers in m are lost
+-- the output of lines that are numbered from k on, if exactly the lines with numbers in m are lost; in m the number of a line that executes
+-- no command has no effect
 unfoldable pub printed_from : List ℕ → ℕ → Session → List (List ℕ) → List Printed
 printed_from m k s [] = []
 printed_from m k s (l ∷ ls) = let one = run_line (is_in m k) s (form l) in one.printed ∷ printed_from m (suc k) one.after ls
@@ -70,7 +71,7 @@ is_form line.Blank = false
 is_form line.Bad = false
 is_form (line.Form f) = true
 
--- whether there is a line with a given number, counted from 0, and it has a form
+-- whether the line with a given number, counted from 0, exists and has a form
 abbrev pub is_command_at : List (List ℕ) → ℕ → Bool
 is_command_at ls j = option_map_or (λ l. is_form (form l)) (slice_get ls j) false
 

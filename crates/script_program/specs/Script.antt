@@ -31,7 +31,7 @@ use Rattle.script_program.specs.declared.summary.Summary.{Summary}
 use Rattle.script_answers.specs.declared.turn.Turn.{Turn}
 use Rattle.script_answers.specs.declared.turn.Turn.TheVariants as turned
 
--- the output of a command with this outcome
+-- the output of the command c with the outcome o
 abbrev pub command_printed : Metamodel → Command View → Outcome → Printed
 command_printed m c o = record { text = outcome_text m (feature_of c) o; turn = outcome_turn o }
 
@@ -59,8 +59,8 @@ pub record Adds (old new : List ℕ) (turn : Turn) (Said : Printed → Type 0) :
 abbrev pub IsLeft : (Printed → Session → Type 0) → State → State → Type 0
 IsLeft Said old new = (new ≡ old) ⊎ ((p : Printed) × (t : Session) × Said p t × (t.state ≡ new))
 
--- a command was executed and its outcome was printed; the adapter that it attached left the pool, and the adapters that it released are in
--- the pool again
+-- A command was executed, and its outcome was printed. If the command was done, the adapter that it attached, if any, left the pool, and
+-- the adapters that it released are in the pool again. If the command was refused, the pool is as it was.
 pub record RunsCommand (s : Session) (c : Command View) (p : Printed) (t : Session) : Type 0 where
   pub outcome : Outcome
   pub executed : Executed s.state c outcome t.state
@@ -73,7 +73,7 @@ RunsRequest s (request.Execute c) p t = RunsCommand s c p t
 RunsRequest s (request.Seen number) p t = (p ≡ seen_printed s.state number) × (t ≡ s)
 RunsRequest s (request.Refuse r) p t = (p ≡ refused_printed r) × (t ≡ s)
 
--- a line was run: its output, and the session after it
+-- a line was run: the session before, the line, its output, and the session after
 abbrev pub RunsLine : Session → Line → Printed → Session → Type 0
 RunsLine s line.Blank p t = (p ≡ blank_printed) × (t ≡ s)
 RunsLine s line.Bad p t = (p ≡ bad_printed) × (t ≡ s)

@@ -26,11 +26,11 @@ session_with heard s boxes = session s (map (λ a. Some (heard a)) boxes)
 abbrev pub first_session : {A : Type 0} → (A → View) → Metamodel → List A → Session
 first_session heard m boxes = session_with heard (empty_state m) boxes
 
--- if a command attaches an adapter, the adapter is in the pool
+-- if a command attaches an adapter, the pool has this adapter under its number
 abbrev pub IsBrought : Pool → Command View → Type 0
 IsBrought pool c = All (λ a. box_of pool a.no ≡ Ok a.view) (attached_adapters c)
 
--- the pool without the adapter that a command attaches
+-- the pool without the adapter that a command attaches; the pool as it is if the command attaches no adapter
 abbrev pub pool_after_take : Pool → Command View → Pool
 pool_after_take pool c = fold pool_without pool (map (λ a. a.no) (attached_adapters c))
 
@@ -45,7 +45,7 @@ abbrev pub brought_no : Command View → Option AdapterNo
 brought_no c = option_map (λ a. a.no) (slice_get (attached_adapters c) 0)
 
 -- the pool after the adapters of an outcome are put back: after a success the released adapters; after a failure the adapter that the
--- command could not attach, under `number`
+-- command was to attach, if any, under `number`
 abbrev pub pool_after_return : Pool → Option AdapterNo → Outcome → Pool
 pool_after_return pool number (Ok r) = fold with_box pool r.released
 pool_after_return pool number (Err f) = option_map_or (with_box pool) (option_zip number f.given_back) pool

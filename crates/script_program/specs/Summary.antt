@@ -1,4 +1,4 @@
--- How lines are counted, and how large the counts of a run are.
+-- How lines are counted, and an upper bound of the counts.
 use Rattle.std.specs.Prelude.{◌+◌, ◌≤◌, ℕ, List, map, fold, Ok, Err, if◌then◌else◌}
 use Rattle.repository.specs.Run.{is_memory}
 use Rattle.repository.specs.Views.{Outcome}
@@ -27,7 +27,7 @@ no_lines = record { lines = 0; refused = 0; bad = 0; no_memory = 0 }
 abbrev pub summary_of : List Printed → Summary
 summary_of ps = fold with_turn no_lines (map (λ p. p.turn) ps)
 
--- no count is above n
+-- no count is greater than n
 pub record IsWithin (s : Summary) (n : ℕ) : Type 0 where
   pub lines : s.lines ≤ n
   pub refused : s.refused ≤ n

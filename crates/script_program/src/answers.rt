@@ -16,7 +16,7 @@ use repository::{Answer, Command, Failure, Read, Reply};
 use script_output::{Output, literal_name};
 use std::alloc::AllocError;
 
-/// The feature that a command names; if it names none, a number that no feature has.
+/// The feature that a command names; if the command names none, the number `NOTHING`, which no feature has.
 pub(crate) fn feature_of<A>(command: &Command<A>) -> FeatureNo
     ensures { (heard : A → View) → result ≡ a.feature_of (command_view heard command.now) }
 {
@@ -73,7 +73,7 @@ fn print_answer(
     }
 }
 
-/// Adds the line that a read of one value of a feature prints; `None` stands for null.
+/// Adds the line that a read of one value of a feature prints; `found` is the value, with `None` for null.
 pub(crate) fn print_found(
     output: &mut Output,
     meta: &Meta,
@@ -140,7 +140,7 @@ fn print_released<A: Adapter>(
     Ok(())
 }
 
-/// Adds the lines that say which adapter was notified of what, and which adapters were released.
+/// Adds a line for each notification, and then a line for each adapter that was released.
 fn print_notified<A: Adapter>(
     output: &mut Output,
     meta: &Meta,
@@ -153,7 +153,7 @@ fn print_notified<A: Adapter>(
     print_released(output, released)
 }
 
-/// Adds the lines that a command prints when it is done; `feature` is `feature_of` of the command.
+/// Adds the lines that a command prints if it is done, and not refused; `feature` is the result of `feature_of` for the command.
 pub(crate) fn print_reply<A: Adapter>(
     output: &mut Output,
     meta: &Meta,
@@ -172,7 +172,7 @@ pub(crate) fn print_reply<A: Adapter>(
     )
 }
 
-/// Adds the lines that a command prints; `feature` is `feature_of` of the command.
+/// Adds the lines that a command with the outcome `outcome` prints; `feature` is the result of `feature_of` for the command.
 pub(crate) fn print_outcome<A: Adapter>(
     output: &mut Output,
     meta: &Meta,

@@ -1,4 +1,4 @@
-//! Turns a form into a request: looks up the names of the form, and takes the adapter that the form attaches, if any, out of the pool.
+//! Turns a form into a request: looks up the names of the form. If the form attaches an adapter, takes the adapter out of the pool.
 ghost use Rattle.std.specs.Prelude.{◌≡◌};
 ghost use Rattle.repository.specs.Views.{command_view};
 ghost use Rattle.repository.specs.declared.command.Command.TheVariants as command;
@@ -20,8 +20,9 @@ use script_output::enum_of;
 /// A number that no class, no feature and no literal has.
 pub(crate) const NOTHING: u32 = u32::MAX;
 
-/// The request of a form. The names of classes, features and literals are looked up in the metamodel, and the adapter to be attached is
-/// taken out of the pool. An unknown name gets the number `NOTHING`, so that the repository refuses the command. Takes no memory.
+/// The request of a form. The names of classes, features and literals are looked up in the metamodel. An unknown name gets the number
+/// `NOTHING`, so that the repository refuses the command. If the form attaches an adapter, the adapter is taken out of the pool; if the
+/// pool does not have the adapter, the request is `Refuse`. Takes no memory.
 pub(crate) fn bind<L: LinkStore, A: Adapter>(
     repository: &Repository<L, A>,
     pool: &mut Pool<A>,
@@ -78,7 +79,8 @@ fn create_command<A>(meta: &Meta, class: Name<'_>) -> Command<A>
     Command::Create(class_number(meta, class.as_str()))
 }
 
-/// The command that asks something of a named feature of a node, or changes the feature. The command attaches no adapter.
+/// The command that asks something of a feature of a node, or changes the feature; `name` is the name of the feature. The command attaches
+/// no adapter.
 fn at_command<L: LinkStore, A: Adapter>(
     repository: &Repository<L, A>,
     node: Node,
@@ -109,8 +111,8 @@ fn at_command<L: LinkStore, A: Adapter>(
     }
 }
 
-/// The end that consists of `node` and of its feature with the name `name`. The feature has the number `NOTHING` if the node has no such
-/// feature.
+/// The end that consists of `node` and of its feature with the name `name`. If the node has no feature with this name, the end has the
+/// feature number `NOTHING`.
 fn named_end<L: LinkStore, A: Adapter>(
     repository: &Repository<L, A>,
     node: Node,
@@ -163,7 +165,8 @@ fn literal_number(meta: &Meta, feature: FeatureNo, name: &str) -> u32
     meta.literal_by_name(e, name).unwrap_or(NOTHING)
 }
 
-/// The value that a written value gives for a feature; only a literal needs the metamodel.
+/// The value that a written value stands for under a feature. Only a literal is looked up in the metamodel, by its name; an unknown name
+/// gets the number `NOTHING`.
 #[inline(always)]
 pub(crate) fn value_in(meta: &Meta, feature: FeatureNo, written: WrittenValue<'_>) -> Value
     ensures { result ≡ b.value_in meta.now feature written.entry }

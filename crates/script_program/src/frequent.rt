@@ -1,9 +1,9 @@
-//! Runs lines of the most frequent forms. Most functions here call the repository directly: binding a line to a command would take longer
-//! than the change itself, and so would taking a reply apart. So a creation makes no reply. Most sets, and most additions to references,
-//! make no reply either if they notify no adapter.
+//! Runs lines of the most frequent forms. Most functions here call the repository directly: to make a command of a line, or to take a reply
+//! apart, would take longer than the change itself. For this reason a creation makes no reply. If a set, or an addition to a reference,
+//! notifies no adapter, it mostly makes no reply either.
 ghost use Rattle.std.specs.Prelude.{◌≡◌, Err, IfOk, MatchOption, None, Ok, OnErr, Some};
 ghost use Rattle.mm_types.specs.Resolved.{Metamodel};
-ghost use Rattle.mm_types.specs.declared.numbers.Node.TheVariants as node;
+ghost use Rattle.mm_types.specs.declared.end.End.{End};
 ghost use Rattle.notice_chain.specs.View.{View};
 ghost use Rattle.repository.specs.Run.{change_outcome, read_outcome};
 ghost use Rattle.repository.specs.declared.command.Command.{Command};
@@ -11,7 +11,7 @@ ghost use Rattle.repository.specs.declared.command.Command.TheVariants.{At};
 ghost use Rattle.repository.specs.Commands.{container, fragment as fragment_of};
 ghost use Rattle.repository.specs.declared.reply.Answer.{Answer};
 ghost use Rattle.repository.specs.declared.reply.Answer.TheVariants as answer;
-ghost use Rattle.frequent_lines.specs.Frequent.{act_line, frequent_line};
+ghost use Rattle.frequent_lines.specs.Frequent.{act_line, bare_form, frequent_line};
 ghost use Rattle.frequent_lines.specs.declared.frequent_act.FrequentAct.TheVariants as act;
 ghost use Rattle.script_program.specs.Answers.{feature_of, unheard_text};
 ghost use Rattle.script_program.specs.Bind as b;
@@ -30,7 +30,7 @@ use links::LinkStore;
 use mm_types::{End, Node, ObjectNo, Refused, Text};
 use repository::{Brief, Command, EndRead, Read, Repository};
 use script_answers::Turn;
-use script_lines::{Name, WrittenValue, value_of};
+use script_lines::{Name, value_of};
 use script_output::Output;
 use std::alloc::{AllocError, Global};
 
@@ -42,8 +42,8 @@ fn print_refused(output: &mut Output, refused: Refused) -> Result<Turn, AllocErr
     Ok(turn_of_refusal(refused))
 }
 
-/// Runs a line that asks for a feature of an object: prints the value of the feature, or the values of its list. Fails only if memory is
-/// refused for the output.
+/// Runs a line that asks for the value of a feature of an object: prints the value, the values of a list, or the refusal. Fails only if
+/// memory is refused for the output.
 fn run_read<L: LinkStore, A: Adapter>(
     repository: &mut Repository<L, A>,
     pool: &mut Pool<A>,
@@ -93,7 +93,7 @@ fn run_create<L: LinkStore, A: Adapter>(
     }
 }
 
-/// Prints the object that contains a given object; null if no object contains the given one. Fails only if memory is refused for the
+/// Prints the object that contains `object`, `null` if no object contains `object`, or the refusal. Fails only if memory is refused for the
 /// output.
 fn run_container<L: LinkStore, A: Adapter>(
     repository: &Repository<L, A>,
@@ -123,8 +123,8 @@ fn print_fragment(output: &mut Output, fragment: &Text) -> Result<Turn, AllocErr
     Ok(Turn::Done)
 }
 
-/// Reads the fragment of an object and prints it. The repository remembers the fragment, if there is memory for it. Fails only if memory is
-/// refused for the output.
+/// Prints the fragment of an object, or the refusal. If there is memory, the repository also remembers the fragment. Fails only if memory
+/// is refused for the output.
 #[inline(never)]
 fn run_fragment<L: LinkStore, A: Adapter>(
     repository: &mut Repository<L, A>,
@@ -163,7 +163,7 @@ fn print_change(
 }
 
 /// Does an act at an end, and prints the answer. Fails only if memory is refused for the output.
-#[inline(never)]
+#[inline(always)]
 fn run_act<L: LinkStore, A: Adapter>(
     repository: &mut Repository<L, A>,
     pool: &mut Pool<A>,
@@ -178,58 +178,10 @@ fn run_act<L: LinkStore, A: Adapter>(
     finish_change(repository, pool, output, end.feature, outcome)
 }
 
-/// Sets a feature of an object to a value, and prints the answer. Fails only if memory is refused for the output.
+/// Runs a line that sets a feature of an object to a value, written as `word`. If `word` is no value, the line is bad. Fails only if memory
+/// is refused for the output, or for a value that is a text.
 #[inline(always)]
 fn run_set<L: LinkStore, A: Adapter>(
-    repository: &mut Repository<L, A>,
-    pool: &mut Pool<A>,
-    output: &mut Output,
-    object: ObjectNo,
-    name: &str,
-    written: WrittenValue<'_>,
-) -> Result<Turn, AllocError>
-    ensures ok { IfOk result (λ t. Adds output.old output.new t (λ p. RunsCommand (session repository.old pool.old)
-        (b.set_command repository.old (node.Object object) name.now written.entry) p (session repository.new pool.new))) }
-    ensures left { OnErr result (IsLeft (RunsCommand (session repository.old pool.old)
-        (b.set_command repository.old (node.Object object) name.now written.entry)) repository.old repository.new) }
-{
-    let node = Node::Object(object);
-    let feature = feature_number(repository, node, name);
-    let value = value_in(repository.meta(), feature, written);
-    match repository.set_brief(node, feature, value) {
-        Brief::Unheard(outcome) => print_change(output, outcome, "ok\n"),
-        Brief::Replied(outcome) => finish_change(repository, pool, output, feature, outcome),
-    }
-}
-
-/// Adds a value to a list of an object, at an index or at the end, and prints the answer. Fails only if memory is refused for the output.
-#[inline(always)]
-fn run_add<L: LinkStore, A: Adapter>(
-    repository: &mut Repository<L, A>,
-    pool: &mut Pool<A>,
-    output: &mut Output,
-    object: ObjectNo,
-    name: &str,
-    written: WrittenValue<'_>,
-    index: Option<u32>,
-) -> Result<Turn, AllocError>
-    ensures ok { IfOk result (λ t. Adds output.old output.new t (λ p. RunsCommand (session repository.old pool.old)
-        (b.add_command repository.old (node.Object object) name.now written.entry index) p (session repository.new pool.new))) }
-    ensures left { OnErr result (IsLeft (RunsCommand (session repository.old pool.old)
-        (b.add_command repository.old (node.Object object) name.now written.entry index)) repository.old repository.new) }
-{
-    let node = Node::Object(object);
-    let feature = feature_number(repository, node, name);
-    let value = value_in(repository.meta(), feature, written);
-    match repository.add_brief(node, feature, value, index) {
-        Brief::Unheard(outcome) => print_change(output, outcome, "true\n"),
-        Brief::Replied(outcome) => finish_change(repository, pool, output, feature, outcome),
-    }
-}
-
-/// Runs a line that sets a feature of an object. Fails only if memory is refused for a text that is the value, or for the output.
-#[inline(always)]
-fn run_set_line<L: LinkStore, A: Adapter>(
     alloc: Global,
     repository: &mut Repository<L, A>,
     pool: &mut Pool<A>,
@@ -241,16 +193,22 @@ fn run_set_line<L: LinkStore, A: Adapter>(
     ensures ok { IfOk result (λ t. Adds output.old output.new t (λ p. RunsLine (session repository.old pool.old) (act_line object name.now (act.Set word.now)) p (session repository.new pool.new))) }
     ensures left { OnErr result (IsLeft (RunsLine (session repository.old pool.old) (act_line object name.now (act.Set word.now))) repository.old repository.new) }
 {
-    match value_of(alloc, word)? {
-        Some(written) => run_set(repository, pool, output, object, name, written),
-        None => print_bad(output),
+    let Some(written) = value_of(alloc, word)? else {
+        return print_bad(output);
+    };
+    let node = Node::Object(object);
+    let feature = feature_number(repository, node, name);
+    let value = value_in(repository.meta(), feature, written);
+    match repository.set_brief(node, feature, value) {
+        Brief::Unheard(outcome) => print_change(output, outcome, "ok\n"),
+        Brief::Replied(outcome) => finish_change(repository, pool, output, feature, outcome),
     }
 }
 
-/// Runs a line that adds a value at the end of a list of an object. Fails only if memory is refused for a text that is the value, or for
-/// the output.
+/// Runs a line that adds a value, written as `word`, to a list of an object: at `index` or, if `index` is `None`, at the end. If `word` is
+/// no value, the line is bad. Fails only if memory is refused for the output, or for a value that is a text.
 #[inline(always)]
-fn run_add_line<L: LinkStore, A: Adapter>(
+fn run_add<L: LinkStore, A: Adapter>(
     alloc: Global,
     repository: &mut Repository<L, A>,
     pool: &mut Pool<A>,
@@ -258,42 +216,27 @@ fn run_add_line<L: LinkStore, A: Adapter>(
     object: ObjectNo,
     name: &str,
     word: &str,
+    index: Option<u32>,
 ) -> Result<Turn, AllocError>
-    ensures ok { IfOk result (λ t. Adds output.old output.new t (λ p. RunsLine (session repository.old pool.old) (act_line object name.now (act.Add word.now)) p (session repository.new pool.new))) }
-    ensures left { OnErr result (IsLeft (RunsLine (session repository.old pool.old) (act_line object name.now (act.Add word.now))) repository.old repository.new) }
+    ensures ok { IfOk result (λ t. Adds output.old output.new t (λ p. RunsLine (session repository.old pool.old) (act_line object name.now (act.Add word.now index)) p (session repository.new pool.new))) }
+    ensures left { OnErr result (IsLeft (RunsLine (session repository.old pool.old) (act_line object name.now (act.Add word.now index))) repository.old repository.new) }
 {
-    match value_of(alloc, word)? {
-        Some(written) => run_add(repository, pool, output, object, name, written, None),
-        None => print_bad(output),
+    let Some(written) = value_of(alloc, word)? else {
+        return print_bad(output);
+    };
+    let node = Node::Object(object);
+    let feature = feature_number(repository, node, name);
+    let value = value_in(repository.meta(), feature, written);
+    match repository.add_brief(node, feature, value, index) {
+        Brief::Unheard(outcome) => print_change(output, outcome, "true\n"),
+        Brief::Replied(outcome) => finish_change(repository, pool, output, feature, outcome),
     }
 }
 
-/// Runs a line that adds a value to a list of an object at an index. Fails only if memory is refused for a text that is the value, or for
-/// the output. The function is never inlined into the code of an addition at the end.
+/// Runs a line that takes the first occurrence of a value, written as `word`, out of a list of an object. If `word` is no value, the line
+/// is bad. Fails only if memory is refused for the output, or for a value that is a text.
 #[inline(never)]
-fn run_add_at_line<L: LinkStore, A: Adapter>(
-    alloc: Global,
-    repository: &mut Repository<L, A>,
-    pool: &mut Pool<A>,
-    output: &mut Output,
-    object: ObjectNo,
-    name: &str,
-    word: &str,
-    index: u32,
-) -> Result<Turn, AllocError>
-    ensures ok { IfOk result (λ t. Adds output.old output.new t (λ p. RunsLine (session repository.old pool.old) (act_line object name.now (act.AddAt word.now index)) p (session repository.new pool.new))) }
-    ensures left { OnErr result (IsLeft (RunsLine (session repository.old pool.old) (act_line object name.now (act.AddAt word.now index))) repository.old repository.new) }
-{
-    match value_of(alloc, word)? {
-        Some(written) => run_add(repository, pool, output, object, name, written, Some(index)),
-        None => print_bad(output),
-    }
-}
-
-/// Runs a line that takes a value out of a list of an object. Fails only if memory is refused for a text that is the value, or for the
-/// output.
-#[inline(never)]
-fn run_remove_value_line<L: LinkStore, A: Adapter>(
+fn run_remove_value<L: LinkStore, A: Adapter>(
     alloc: Global,
     repository: &mut Repository<L, A>,
     pool: &mut Pool<A>,
@@ -305,19 +248,31 @@ fn run_remove_value_line<L: LinkStore, A: Adapter>(
     ensures ok { IfOk result (λ t. Adds output.old output.new t (λ p. RunsLine (session repository.old pool.old) (act_line object name.now (act.RemoveValue word.now)) p (session repository.new pool.new))) }
     ensures left { OnErr result (IsLeft (RunsLine (session repository.old pool.old) (act_line object name.now (act.RemoveValue word.now))) repository.old repository.new) }
 {
-    match value_of(alloc, word)? {
-        Some(written) => {
-            let node = Node::Object(object);
-            let feature = feature_number(repository, node, name);
-            let value = value_in(repository.meta(), feature, written);
-            let end = End { node, feature };
-            run_act(repository, pool, output, end, Act::RemoveValue(value))
-        }
-        None => print_bad(output),
+    let Some(written) = value_of(alloc, word)? else {
+        return print_bad(output);
+    };
+    let node = Node::Object(object);
+    let feature = feature_number(repository, node, name);
+    let value = value_in(repository.meta(), feature, written);
+    let end = End { node, feature };
+    run_act(repository, pool, output, end, Act::RemoveValue(value))
+}
+
+/// The act of the repository that an act without a value asks for.
+#[inline(always)]
+fn act_of(bare: BareAct) -> Act
+    ensures { (m : Metamodel) (e : End) → b.at_command {A = View} m e (bare_form bare) ≡ At e result }
+{
+    match bare {
+        BareAct::Unset => Act::Unset,
+        BareAct::Remove(index) => Act::Remove(index),
+        BareAct::Move { to, from } => Act::Move { to, from },
+        BareAct::Resolve(index) => Act::Resolve(index),
     }
 }
 
-/// Does an act without a value at a feature of an object, and prints the answer. Fails only if memory is refused for the output.
+/// Does an act that has no value (`unset`, `remove`, `move` or `resolve`) at a feature of an object, and prints the answer. Fails only if
+/// memory is refused for the output.
 #[inline(never)]
 fn run_bare_act<L: LinkStore, A: Adapter>(
     repository: &mut Repository<L, A>,
@@ -333,14 +288,7 @@ fn run_bare_act<L: LinkStore, A: Adapter>(
     let node = Node::Object(object);
     let feature = feature_number(repository, node, name);
     let end = End { node, feature };
-    match bare {
-        BareAct::Unset => run_act(repository, pool, output, end, Act::Unset),
-        BareAct::Remove(index) => run_act(repository, pool, output, end, Act::Remove(index)),
-        BareAct::Move { to, from } => {
-            run_act(repository, pool, output, end, Act::Move { to, from })
-        }
-        BareAct::Resolve(index) => run_act(repository, pool, output, end, Act::Resolve(index)),
-    }
+    run_act(repository, pool, output, end, act_of(bare))
 }
 
 /// Asks whether a feature of an object is set, and prints the answer. Fails only if memory is refused for the output.
@@ -361,9 +309,10 @@ fn run_is_set<L: LinkStore, A: Adapter>(
     run_command(repository, pool, output, Command::Read(read))
 }
 
-/// Does `act` at a feature of an object, and prints the answer. An act changes the feature, or asks for its value or whether it is set.
+/// Does `act` at a feature of an object, and prints the answer. `act` changes the feature, asks for its value, or asks whether the feature
+/// is set. If the word of `act` for a value is no value, the line is bad.
 ///
-/// Fails only if memory is refused for a text that is the value of the line, or for the output.
+/// Fails only if memory is refused for the output, or for a value of the line that is a text.
 #[inline(always)]
 fn run_at<L: LinkStore, A: Adapter>(
     alloc: Global,
@@ -382,34 +331,23 @@ fn run_at<L: LinkStore, A: Adapter>(
         FrequentAct::Get => run_read(repository, pool, output, object, name),
         FrequentAct::IsSet => run_is_set(repository, pool, output, object, name),
         FrequentAct::Set(word) => {
-            run_set_line(alloc, repository, pool, output, object, name, word.as_str())
+            run_set(alloc, repository, pool, output, object, name, word.as_str())
         }
-        FrequentAct::Add(word) => {
-            run_add_line(alloc, repository, pool, output, object, name, word.as_str())
-        }
-        FrequentAct::AddAt(word, index) => {
-            run_add_at_line(
-                alloc,
-                repository,
-                pool,
-                output,
-                object,
-                name,
-                word.as_str(),
-                index,
-            )
+        FrequentAct::Add(word, index) => {
+            let word = word.as_str();
+            run_add(alloc, repository, pool, output, object, name, word, index)
         }
         FrequentAct::RemoveValue(word) => {
-            run_remove_value_line(alloc, repository, pool, output, object, name, word.as_str())
+            run_remove_value(alloc, repository, pool, output, object, name, word.as_str())
         }
         FrequentAct::Bare(bare) => run_bare_act(repository, pool, output, object, name, bare),
     }
 }
 
-/// Runs a line of one of the most frequent forms, and prints the answer. The effect and the answer are the same as with `run_text`. But the
-/// steps are fewer, since this function knows which call of the repository the line asks for.
+/// Runs a line of one of the most frequent forms, and prints the answer. The effect and the answer are those of `run_text`, but take fewer
+/// steps, since this function knows which call of the repository the line asks for.
 ///
-/// Fails only if memory is refused for a text that is the value of the line, or for the output.
+/// Fails only if memory is refused for the output, or for a value of the line that is a text.
 pub(crate) fn run_frequent<L: LinkStore, A: Adapter>(
     alloc: Global,
     repository: &mut Repository<L, A>,

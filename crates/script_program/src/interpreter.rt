@@ -18,7 +18,7 @@ use script_lines::Source;
 use script_output::Output;
 use std::alloc::{AllocError, Global};
 
-/// A repository, the adapters that lines can attach, and the output of the last line or call.
+/// A repository, the adapters that lines can attach, and the output that `text` returns.
 #[derive(Drop)]
 pub struct Interpreter<L: LinkStore, A: Adapter> {
     alloc: Global,
@@ -28,8 +28,8 @@ pub struct Interpreter<L: LinkStore, A: Adapter> {
 }
 
 impl<L: LinkStore, A: Adapter> Interpreter<L, A> {
-    /// An interpreter that has run no line and printed nothing, over an empty repository of a metamodel. The names of the adapters are A1,
-    /// A2 and so on, in their order. Fails only if memory is refused.
+    /// An interpreter that has run no line and printed nothing, over an empty repository of a metamodel. The adapters are named A1, A2 and
+    /// so on, in the order of `boxes`. Fails only if memory is refused.
     pub fn new(alloc: Global, meta: Meta, boxes: Vec<A>) -> Result<Self, AllocError>
         ensures begin { IfOk result (λ i. session i.repository i.pool ≡ first_session A.heard meta boxes.items) }
         ensures text { IfOk result (λ i. i.output ≡ []) }
@@ -43,10 +43,10 @@ impl<L: LinkStore, A: Adapter> Interpreter<L, A> {
         })
     }
 
-    /// Runs a line, and returns how it is counted. From then on `text` returns the output of the line.
+    /// Runs a line, and returns how it is counted. After this call `text` returns the output of the line.
     ///
-    /// Fails only if memory is refused to the run itself; then no contract determines the state of the interpreter. If memory is refused to
-    /// the repository, the line prints `refused 28 MEMORY`, and nothing has changed.
+    /// Fails only if memory is refused for a text that the line has, or for the output; then no contract determines the state of the
+    /// interpreter. If memory is refused to the repository, the line prints `refused 28 MEMORY`, and nothing has changed.
     pub fn answer(&mut self, line: &[u8]) -> Result<Turn, AllocError>
         ensures { IfOk result (λ t. RunsLine (session self.old.repository self.old.pool) (forms.form line.now) (printed_line self.new.output t)
             (session self.new.repository self.new.pool)) }

@@ -19,15 +19,16 @@ use script_streams::RunFault;
 use std::alloc::Global;
 use std::io::{BufReader, Read, Write};
 
-/// Runs a script live, as `run_live` does, and keeps each line that changes the model in a journal before it is answered.
+/// Runs a script live, as `run_live` does. Each line that changes the model is kept in a journal before the line is answered.
 ///
 /// Answered lines are kept: after a crash at any moment, the journal has the model of all lines that were answered, and perhaps of some
-/// further lines. Lines are put on the disk before each read that may wait, and when 65,536 bytes of answers or more are held back. Of the
-/// lines that are put on the disk together, a crash leaves all or none.
+/// further lines. Answers are held back until their lines are on the disk. Lines are put on the disk before each read that may wait, when
+/// 65,536 bytes of answers or more are held back, and at the end of the script. Of the lines that are put on the disk together, a crash
+/// leaves all or none.
 ///
-/// Fails with `Read` if a read fails; with `TooLong` if a line has more than `INPUT_BYTES` bytes, or if the script has more than `u64::MAX
-/// - 1` lines; with `Journal` if the disk fails, or if the journal is full; with `Write` if a write or a flush fails, or if a write takes
-/// no byte; and with `Memory` if memory is refused to the run itself.
+/// Fails with `Read` if a read fails; with `TooLong` if a line has more than `INPUT_BYTES` bytes, or if the script has `u64::MAX` lines or
+/// more; with `Journal` if the disk fails, or if the journal is full; with `Write` if a write or a flush fails, or if a write takes no
+/// byte; and with `Memory` if memory is refused to the run itself.
 pub fn run_journal<R: Read, D: Disk, W: Write, L: LinkStore, A: Adapter, H: Listener>(
     alloc: Global,
     reader: &mut BufReader<R>,
@@ -43,7 +44,7 @@ pub fn run_journal<R: Read, D: Disk, W: Write, L: LinkStore, A: Adapter, H: List
     ensures end { OnOk result (OnSome (reader_remaining R.remaining reader.old) (IsAtEnd (reader_remaining R.remaining reader.new))) }
     ensures at_rest { OnOk result (IsAtRest D.seen D.may_leave outbox.new) }
     // Whatever stops the run, each file that a crash may leave is a journal of the model of all lines that were answered, and perhaps of
-    // some further lines. This also holds if the run stops because the machine fails, and with it each call of the disk.
+    // some further lines. This also holds if the run stops because the machine fails, so that each call of the disk fails.
     ensures stopped { (m : Metamodel) → model_of m (kept_by D.seen outbox.old) ≡ Some (session_of session.old).state.model
         → IfErr result (λ fault. IfSome (reader_remaining R.remaining reader.old) (λ input. StopsJournaled m fault (session_of session.old) (lines input)
         (W.contents (writer_of outbox.old)) (W.contents (writer_of outbox.new)) (D.may_leave (disk_under outbox.new)))) }
@@ -51,7 +52,7 @@ pub fn run_journal<R: Read, D: Disk, W: Write, L: LinkStore, A: Adapter, H: List
     // is full.
     ensures long { IsErrOf result RunFault.TooLong → IfSome (reader_remaining R.remaining reader.old) IsTooLong }
     ensures disk { IsErrOf result RunFault.Journal → (D.faults (disk_under outbox.old) < D.faults (disk_under outbox.new)) ⊎ IsFull D.seen outbox.new }
-    // A crash at any moment of the run leaves a journal of the model that some first lines of the script left.
+    // A crash at any moment of the run leaves a journal of the model that the first n lines of the script left, for some n.
     ensures any_moment { (m : Metamodel) → model_of m (kept_by D.seen outbox.old) ≡ Some (session_of session.old).state.model
         → LeavesOnly D.moment D.left_since (disk_under outbox.old) (disk_under outbox.new)
         (λ file. IfSome (reader_remaining R.remaining reader.old) (λ input. LeavesJournaled m (session_of session.old) (lines input) file)) }

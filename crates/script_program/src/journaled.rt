@@ -25,7 +25,7 @@ pub struct Journaled<L: LinkStore, A: Adapter, H: Listener> {
     listener: H,
     /// How many lines the interpreter has run.
     lines: u64,
-    /// Whether one of these lines was refused, or bad.
+    /// Whether at least one line that the interpreter has run was refused, or bad.
     is_faulty: bool,
 }
 
@@ -58,7 +58,8 @@ fn asks_for_change(alloc: Global, line: &[u8]) -> Result<bool, AllocError>
     }
 }
 
-/// How a line that was run counts for a journal. Fails only if memory is refused for a text that the line has.
+/// How a line that was run counts for a journal; `turn` is how the interpreter counts the line. Fails only if memory is refused for a text
+/// that the line has.
 fn turn_of(alloc: Global, line: &[u8], turn: Turn) -> Result<durable::JournalTurn, AllocError>
     ensures { IfOk result (λ t. t ≡ journal_turn (line_asks (form line.now)) turn) }
 {
@@ -87,8 +88,8 @@ fn tell<L: LinkStore, A: Adapter, H: Listener>(
 }
 
 impl<L: LinkStore, A: Adapter, H: Listener> Journaled<L, A, H> {
-    /// An interpreter over an empty repository of a metamodel. The names of the adapters are A1, A2 and so on, in their order. The listener
-    /// is called with each line. Fails only if memory is refused.
+    /// An interpreter over an empty repository of a metamodel. The adapters are named A1, A2 and so on, in the order of `boxes`. The
+    /// listener is called with each line. Fails only if memory is refused.
     pub fn new(alloc: Global, meta: Meta, boxes: Vec<A>, listener: H) -> Result<Self, AllocError>
         ensures begin { IfOk result (λ j. session_of j ≡ first_session A.heard meta boxes.items) }
         ensures lines { IfOk result (λ j. lines_run j ≡ 0) }
@@ -103,7 +104,8 @@ impl<L: LinkStore, A: Adapter, H: Listener> Journaled<L, A, H> {
         })
     }
 
-    /// Notifies the listener that all lines of a journal were run, and that the next line is the first line of a script.
+    /// Calls `script_begins` of the listener. The caller must have run all lines of the journal; the next line must be the first line of a
+    /// script.
     pub(crate) fn begin_script(&mut self)
         ensures { session_of self.new ≡ session_of self.old }
     {
@@ -124,7 +126,7 @@ impl<L: LinkStore, A: Adapter, H: Listener> Journaled<L, A, H> {
         self.lines
     }
 
-    /// Whether a line that the interpreter has run was refused, or bad.
+    /// Whether at least one line that the interpreter has run was refused, or bad.
     pub fn is_faulty(&self) -> bool
         ensures { result ≡ has_fault self.now }
     {

@@ -37,7 +37,7 @@ pub enum KeptFault {
 /// The result of a run with a journal.
 #[derive(Drop)]
 pub struct KeptRun<D, W> {
-    /// `Ok` if the run came to its end, or why it stopped.
+    /// `Ok` if the run came to its end; otherwise why the run stopped.
     pub outcome: Result<(), KeptFault>,
     /// The disk that has the journal.
     pub disk: D,
@@ -45,7 +45,7 @@ pub struct KeptRun<D, W> {
     pub writer: W,
 }
 
-/// The outcome of a run whose journal was opened.
+/// The outcome of a run whose journal was opened; a fault of `run_journal` is `Stopped`.
 fn stopped_by(outcome: Result<(), RunFault>) -> Result<(), KeptFault>
     ensures { result ≡ kept_outcome outcome }
 {
@@ -55,8 +55,8 @@ fn stopped_by(outcome: Result<(), RunFault>) -> Result<(), KeptFault>
     }
 }
 
-/// Runs the lines of a file again, and opens the journal in that file. A file without lines gets the head first. Fails with a fault of
-/// `run_again` or `open_journal`, and then gives the disk back.
+/// Runs the lines of a file again, and then opens the journal in that file; `bytes` is the content of the file. If the file has no line,
+/// `head` is put into the file as its first line. Fails with a fault of `run_again` or `open_journal`, and then gives the disk back.
 fn opened<D: Disk + Drop, L: LinkStore, A: Adapter, H: Listener>(
     alloc: Global,
     session: &mut Journaled<L, A, H>,
@@ -120,12 +120,13 @@ fn run_opened<R: Read, D: Disk, W: Write, L: LinkStore, A: Adapter, H: Listener>
     }
 }
 
-/// Runs the lines of a journal again, and then runs a script live. The file of the journal has the content `bytes`, and the journal keeps
-/// the changes of the script. A file without lines gets the head first. The session has to be new: its repository has to be empty.
+/// Runs the lines of a journal again, and then runs a script live, whose changes the journal keeps. `bytes` is the content of the journal's
+/// file. If the file has no line, `head` is put into the file as its first line. The session has to be new: its repository has to be empty.
 ///
-/// Answered lines are kept. A crash may happen in the recovery, between two calls, or inside a call. The file that the crash leaves is a
-/// journal of the model of all lines that were answered, and perhaps of some further lines. A call that opens this file begins with that
-/// model.
+/// Answered lines are kept. A crash may happen in the recovery, between two calls of the disk, or inside a call of the disk. The file that
+/// the crash leaves is a journal of the model of all lines that were answered, and perhaps of some further lines. A run that opens this
+/// file begins with that model. There is one exception: if the file had no line, a crash before the first answer may leave the file without
+/// a line. A run that opens a file without a line begins with the empty model.
 ///
 /// Stops with `Unopened` and a fault of `run_again` or `open_journal`, before the script is read; or with `Stopped` and a fault of
 /// `run_journal`.
@@ -154,11 +155,11 @@ pub fn run_kept<R: Read, D: Disk + Drop, W: Write, L: LinkStore, A: Adapter, H: 
         → result.outcome ≡ Err (KeptFault.Stopped fault)
         → IfSome (reader_remaining R.remaining reader.old) (λ input. StopsKept m fault head.now bytes.items (lines input)
         (W.contents writer) (W.contents result.writer) (D.may_leave result.disk)) }
-    // If the journal is not opened, nothing was read and nothing is answered.
+    // If the journal is not opened, nothing of the script was read, and nothing was answered.
     ensures unopened { (fault : JournalFault) → result.outcome ≡ Err (KeptFault.Unopened fault)
         → (result.writer ≡ writer) × (reader.new ≡ reader.old) }
-    // A crash at any moment leaves the lines of the file, or the head alone if the file had no line, or a journal of the model that some
-    // first lines of the script left.
+    // A crash at any moment leaves a file with the lines of the old file, or with the head alone if the old file had no line; or a journal
+    // of the model that the first n lines of the script left, for some n.
     ensures any_moment { (m : Metamodel) → (session_of session.old).state ≡ empty_state m
         → LeavesOnly D.moment D.left_since disk result.disk (LeavesKeptIn m head.now bytes.items (reader_remaining R.remaining reader.old)) }
 {

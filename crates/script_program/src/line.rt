@@ -66,7 +66,7 @@ fn number_of<A>(command: &Command<A>) -> Option<AdapterNo>
     }
 }
 
-/// Reads a single feature, and prints the value without making a copy of it. Fails only if memory is refused for the output.
+/// Reads a single feature, and prints its value without copying it, or prints the refusal. Fails only if memory is refused for the output.
 pub(crate) fn run_get<L: LinkStore, A: Adapter>(
     repository: &Repository<L, A>,
     output: &mut Output,
@@ -111,9 +111,9 @@ fn run_seen<L: LinkStore, A: Adapter>(
     }
 }
 
-/// Executes a command, and prints its answer. An adapter that the command attaches is out of the pool already; the adapter goes back to the
-/// pool if the command is refused. Adapters that the command releases go back to the pool. Fails only if memory is refused for the output;
-/// then the command was executed.
+/// Executes a command, and prints its answer. If the command attaches an adapter, the caller must have taken the adapter out of the pool;
+/// if such a command is refused, the adapter goes back to the pool. Adapters that the command releases go back to the pool. Fails only if
+/// memory is refused for the output; then the command was executed, and no adapter goes back to the pool.
 pub(crate) fn run_command<L: LinkStore, A: Adapter>(
     repository: &mut Repository<L, A>,
     pool: &mut Pool<A>,
@@ -188,7 +188,7 @@ fn print_as_refused(output: &mut Output, refused: Refused) -> Result<Turn, Alloc
     Ok(Turn::Refused)
 }
 
-/// Adds the text `bad line`, which a bad line prints. Fails only if memory is refused for this text.
+/// Adds what a bad line prints: the text `bad line` and a newline. Fails only if memory is refused for this text.
 pub(crate) fn print_bad(output: &mut Output) -> Result<Turn, AllocError>
     ensures { (s : Session) → IfOk result (λ t. Adds output.old output.new t (λ p. RunsLine s asked.Bad p s)) }
 {
@@ -196,8 +196,8 @@ pub(crate) fn print_bad(output: &mut Output) -> Result<Turn, AllocError>
     Ok(Turn::Bad)
 }
 
-/// Loads a document into a resource, and prints the answer. This function is never inlined into `run_text`, whose frame would then be
-/// larger for every line. Fails only if memory is refused for the output.
+/// Loads a document into a resource, and prints the answer. This function is never inlined into `run_text`, since the frame of `run_text`
+/// would then be larger for every line. Fails only if memory is refused for the output.
 #[inline(never)]
 fn run_load<L: LinkStore, A: Adapter>(
     repository: &mut Repository<L, A>,
@@ -213,7 +213,8 @@ fn run_load<L: LinkStore, A: Adapter>(
     finish_change(repository, pool, output, FeatureNo(NOTHING), outcome)
 }
 
-/// Runs a line that is a text: parses it, runs its command and prints the answer.
+/// Runs a line, given as a text: parses the line, runs its command and prints the answer. A blank line prints nothing, and a bad line
+/// prints `bad line`.
 ///
 /// Fails only if memory is refused for a text that the line has, or for the output.
 #[inline(never)]
@@ -240,7 +241,7 @@ fn run_text<L: LinkStore, A: Adapter>(
     }
 }
 
-/// Runs a line that is a text: by `run_frequent` if `frequent_of` reads the line, else by `run_text`.
+/// Runs a line, given as a text: by `run_frequent` if `frequent_of` reads the line, else by `run_text`.
 ///
 /// Fails as `run_line` does.
 fn run_text_line<L: LinkStore, A: Adapter>(
@@ -259,10 +260,11 @@ fn run_text_line<L: LinkStore, A: Adapter>(
     }
 }
 
-/// Runs a line: parses it, runs its command and prints the answer.
+/// Runs a line: parses it, runs its command and prints the answer. A blank line prints nothing. A line that is bad, for example because it
+/// is not UTF-8, prints `bad line`.
 ///
-/// Fails if memory is refused to the program itself; then the repository is as it was, or as the line leaves it. If memory is refused to
-/// the repository, the line prints that refusal.
+/// Fails only if memory is refused for a text that the line has, or for the output; then the repository is as it was, or as the line leaves
+/// it. If memory is refused to the repository, the line prints `refused 28 MEMORY`.
 #[inline(always)]
 pub(crate) fn run_line<L: LinkStore, A: Adapter>(
     alloc: Global,

@@ -10,7 +10,8 @@ pub trait Listener: Drop {
     /// Whether `line_was_run` has to be called. If not, a run takes no time for the listener.
     fn is_listening(&self) -> bool;
 
-    /// Takes note that the next line is the first line of a script. The lines before it came from a journal.
+    /// Takes note that all lines of a journal were run, and that the next line is the first line of a script. Called only in a run with a
+    /// journal.
     fn script_begins(&mut self);
 
     /// Takes note of a line and of its output. The repository is as the line left it.

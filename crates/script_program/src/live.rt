@@ -24,7 +24,7 @@ use std::io::{BufReader, Read, Write};
 /// The bytes after an answer: an empty line.
 const BEHIND: &[u8] = b"\n";
 
-/// Runs a line, and writes its output with an empty line after it; `output` is a buffer for the output.
+/// Runs a line, writes its output, calls the listener, and writes an empty line; `output` is a buffer for the output.
 ///
 /// Fails with `Memory` if memory is refused to the run itself, and with `Write` if a write fails or takes no byte.
 fn answer_live<W: Write, L: LinkStore, A: Adapter, H: Listener>(
@@ -129,7 +129,7 @@ pub fn live_over<R: Read, W: Write, L: LinkStore, A: Adapter, H: Listener>(
 ///
 /// Fails with `Read` if a read fails; with `TooLong` if a line has more than `INPUT_BYTES` bytes, or if the script has `u64::MAX` newlines
 /// or more; with `Write` if a write or a flush fails, or if a write takes no byte; and with `Memory` if memory is refused to the run
-/// itself. After each of these faults, a prefix of the output of the first lines was written. If memory is refused to the repository, the
+/// itself. After each of these faults, a prefix of the answers to the first lines was written. If memory is refused to the repository, the
 /// line prints `refused 28 MEMORY`, and the run goes on.
 pub fn run_live<R: Read, W: Write, L: LinkStore, A: Adapter>(
     alloc: Global,

@@ -1,4 +1,4 @@
-//! Makes a resource and loads it, as two lines of a script do.
+//! Makes a resource and loads a document into it, as two lines of a script do.
 ghost use Rattle.std.specs.Prelude.{◌≡◌};
 ghost use Rattle.repository.specs.Run.{change_outcome};
 ghost use Rattle.repository.specs.Views.{changed_view};
@@ -19,7 +19,7 @@ fn resource_in(answer: &Answer) -> Option<ResourceNo>
     }
 }
 
-/// Loads a document into a resource; refused with `NoResource` if no resource is given.
+/// Loads a document into a resource. Refused with `NoResource` if no resource is given, and otherwise as `load` is.
 fn load_into<L: LinkStore, A: Adapter>(
     repository: &mut Repository<L, A>,
     resource: Option<ResourceNo>,

@@ -35,8 +35,8 @@ fn write_block<W: Write>(writer: &mut W, block: &mut Output) -> Result<(), RunFa
     Ok(())
 }
 
-/// Runs the lines of a script in turn, and writes their output. If memory is refused to the run, the answers that wait in the block are not
-/// written: the call to which memory was refused may have added only a part of its text to the block.
+/// Runs the lines of a script in turn, and writes their output. If memory is refused to the run itself, the answers that wait in the block
+/// are not written: the call to which memory was refused may have added only a part of its text to the block.
 pub(crate) fn run_plain<W: Write, L: LinkStore, A: Adapter>(
     alloc: Global,
     writer: &mut W,

@@ -12,7 +12,7 @@ use std::marker::Model;
 use std::mem;
 
 /// The adapters that a script can attach. The adapters have the names A1, A2 and so on, in the order of `boxes`. An adapter that is
-/// attached is out of the pool, and has the entry `None`.
+/// attached is out of the pool: its entry is `None`.
 #[derive(Drop)]
 pub(crate) struct Pool<A: Adapter> {
     boxes: Vec<Option<A>>,
@@ -28,7 +28,7 @@ impl<A: Adapter> Model for Pool<A> {
 }
 
 impl<A: Adapter> Pool<A> {
-    /// A pool that has all adapters. Fails only if memory is refused.
+    /// A pool that has all adapters of `boxes`. Fails only if memory is refused.
     pub(crate) fn new(alloc: Global, boxes: Vec<A>) -> Result<Self, AllocError>
         ensures { IfOk result (λ p. p ≡ map (λ a. Some (A.heard a)) boxes.items) }
     {
@@ -39,8 +39,8 @@ impl<A: Adapter> Pool<A> {
         Ok(Pool { boxes: slots })
     }
 
-    /// Puts `entry` under the number of an adapter, and returns the entry that was there. Returns `None` if the pool has no entry under
-    /// this number.
+    /// Puts `entry` under the number of an adapter, and returns the entry that was there. If the pool has no entry under this number,
+    /// changes nothing, and returns `None`.
     fn replaced(&mut self, no: AdapterNo, entry: Option<A>) -> Option<Option<A>>
         ensures before { option_map (λ o. option_map A.heard o) result ≡ option_and_then (slice_get self.old) (p.index no) }
         ensures after { self.new ≡ p.with_entry (option_map A.heard entry) self.old no }
@@ -77,8 +77,8 @@ impl<A: Adapter> Pool<A> {
         let _ = self.replaced(no, Some(adapter));
     }
 
-    /// Puts the adapters of an outcome back into the pool: the adapters that the reply released; or, if the command failed, the adapter
-    /// with the number `no` that the command was to attach.
+    /// Puts the adapters of an outcome back into the pool: after a success the adapters that the command released; after a refusal the
+    /// adapter that the command was to attach, if any, under the number `no`.
     pub(crate) fn give_back(&mut self, no: Option<AdapterNo>, outcome: Result<Reply<A>, Failure<A>>)
         ensures { self.new ≡ pool_after_return self.old no (outcome_view A.heard outcome) }
     {

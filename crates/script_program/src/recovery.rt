@@ -14,11 +14,12 @@ use durable::{JournalFault, ReplayFault, behind_head, replay};
 use links::LinkStore;
 use std::alloc::Global;
 
-/// Runs the lines of a file again, over an empty repository. If the file is empty, or is what a crash may leave while a journal is begun,
-/// nothing is run: the journal is still to be begun.
+/// Runs the lines of a file again, over an empty repository; `bytes` is the content of the file. No line is run if the file is empty, or if
+/// a crash may have left it before the head was completely written: then the journal is still to be begun.
 ///
-/// Any other file has to begin with the head; otherwise the call fails with `NoJournal` or `OtherMetamodel`. Fails with `Line` if a line,
-/// run again, is refused or bad or is no line that a journal keeps, and with `Memory` if memory is refused.
+/// Any other file has to begin with the head. Fails with `OtherMetamodel` if the file begins with the head of a different metamodel
+/// document; with `NoJournal` if it begins with no head; with `Line` at the first line that is bad, asks for no change of the model, or is
+/// refused for a reason other than memory; and with `Memory` if memory is refused.
 pub fn run_again<L: LinkStore, A: Adapter, H: Listener>(
     alloc: Global,
     session: &mut Journaled<L, A, H>,

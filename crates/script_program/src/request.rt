@@ -7,8 +7,8 @@ use repository::Command;
 pub(crate) enum Request<A> {
     /// A command of the repository.
     Execute(Command<A>),
-    /// How often an adapter was notified, and how many notifications it keeps.
+    /// The question how often an attached adapter was notified, and how many notifications it keeps.
     Seen(AdapterNo),
-    /// The repository is not called, since the adapter that is to be attached is not in the pool.
+    /// The adapter that is to be attached is not in the pool, so the repository is not called. The value is the refusal.
     Refuse(Refused),
 }

@@ -210,9 +210,9 @@ pub fn run_dressed<R: Read, W: Write, L: LinkStore, A: Adapter>(
     outcome
 }
 
-/// Reads a whole script, runs it over an empty repository of a metamodel, and writes the output of its lines. The names of the adapters are
-/// A1, A2 and so on, in their order. The repository keeps its links in a store of the type `L`. At the end the repository is closed, and
-/// nothing is printed for that.
+/// Reads a whole script, runs it over an empty repository of a metamodel, and writes the output of its lines. The adapters are named A1, A2
+/// and so on, in the order of `boxes`. The repository keeps its links in a store of the type `L`. At the end the repository is closed,
+/// which prints nothing.
 ///
 /// Fails with `Read` if a read fails and with `TooLong` if the script has more than `INPUT_BYTES` bytes: then no line was run. Fails with
 /// `Write` if a write fails or takes no byte, and with `Memory` if memory is refused to the run itself: then a prefix of the output of the

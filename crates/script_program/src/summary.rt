@@ -7,11 +7,11 @@ use script_answers::Turn;
 /// The counts of a run that came to its end.
 #[derive(Clone, Copy, Debug, PartialEq, Eq)]
 pub struct Summary {
-    /// How many lines were not blank.
+    /// How many of the lines that were run are not blank.
     pub lines: u64,
-    /// How many of the lines printed a refusal.
+    /// How many of the lines that were run printed a refusal.
     pub refused: u64,
-    /// How many of the lines printed `bad line`.
+    /// How many of the lines that were run printed `bad line`.
     pub bad: u64,
     /// How many of the refused lines were refused with `Memory`.
     pub no_memory: u64,
@@ -29,7 +29,7 @@ impl Summary {
         }
     }
 
-    /// The counts after one more line.
+    /// The counts after one more line; `turn` is how the line is counted.
     pub(crate) fn with(self, turn: Turn) -> Self
         requires { IsWithin self (2 ^ 64 - 2) }
         ensures { result ≡ with_turn self turn }

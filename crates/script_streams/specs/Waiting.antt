@@ -6,7 +6,7 @@ use Rattle.script_streams.specs.declared.run_fault.RunFault.{RunFault}
 use Rattle.script_streams.specs.declared.run_fault.RunFault.TheVariants.{Read, Write, TooLong, Memory, Journal}
 
 module _ {X : Type 0} (can_wait is_ready : X → Type 0) (becomes : X → X → Type 0) (fails : X → RunFault → X → Type 0) where
-  -- Any number of the caller's calls before waits succeeded, perhaps none, and the next of these calls failed.
+  -- Any number of calls of `before_wait` succeeded, perhaps none, and the next call of it failed with `fault`.
   pub record FailsToWait (old : X) (fault : RunFault) (new : X) : Type 0 where
     pub before : X
     pub became : becomes old before
@@ -27,10 +27,10 @@ module _ {X : Type 0} (can_wait is_ready : X → Type 0) (becomes : X → X → 
     pub kind : fault ≡ TooLong
     pub long : IfSome input BeginsTooLong
 
-  -- a piece of a line was not read
+  -- a piece of a line was not read: a call of `before_wait` failed, a read failed, or memory was refused
   abbrev pub StopsPiece : X → RunFault → X → Type 0
   StopsPiece old fault new = FailsToWait old fault new ⊎ FailsToRead old fault new
 
-  -- a line was not read
+  -- a line was not read: one of its pieces was not read, or the line was too long
   abbrev pub StopsLine : Option (List ℕ) → X → RunFault → X → Type 0
   StopsLine input old fault new = FailsToWait old fault new ⊎ (FailsToRead old fault new ⊎ FindsTooLong input old fault new)

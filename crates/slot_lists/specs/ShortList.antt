@@ -4,7 +4,7 @@ use Rattle.slot_lists.specs.declared.short_list.Layout.{Layout}
 use Rattle.slot_lists.specs.declared.short_list.Layout.TheVariants.{Empty, One, Many}
 use Rattle.slot_lists.specs.Places.{Places}
 
--- the values of a list, and how many more it can take without memory; `Empty` can take one value, which needs no block
+-- the values of a list, and how many more can be added without taking memory; `Empty` can take one value, which needs no block
 abbrev pub short_places : {T : Type 0} → Layout T → Places T
 short_places Empty = record { items = []; spare = 1 }
 short_places (One v) = record { items = v ∷ []; spare = 0 }

@@ -4,8 +4,8 @@ ghost use Rattle.slot_lists.specs.Pieces.{joined_values, HasHole};
 
 use crate::piece::Piece;
 
-/// Moves the hole from the piece `from` to the piece `to`, and keeps the values in their order. Apart from the hole, the pieces have the
-/// lengths that `len` values give them if each piece is filled before the next.
+/// Moves the hole from the piece `from` to the piece `to`, and keeps the values in their order. If the hole is counted as a value, there
+/// are `len` values, and each piece is filled before the next.
 pub(crate) fn move_hole<T: Drop>(pieces: &mut Vec<Piece<T>>, len: usize, from: usize, to: usize)
     requires from { HasHole len from pieces.old.items }
     requires to { 1024 * to < len }

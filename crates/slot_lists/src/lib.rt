@@ -1,7 +1,7 @@
 //! Lists of values. An insert at the front of a long list is fast, and a short list takes little memory.
 //!
-//! `SlotList::reserve` reserves capacity for a number of further values. That number of inserts then takes no memory. A reservation for
-//! more values than a list can count (2^32 pieces, or `usize::MAX` values) fails as if memory were refused.
+//! `SlotList::reserve` reserves capacity for a number of further values. After that, this number of inserts takes no memory. A reservation
+//! that needs more than 2^32 pieces, or capacity for more than `usize::MAX` values, fails as if memory were refused.
 #![tactic(auto)]
 
 mod hole;

@@ -9,7 +9,7 @@ use std::marker::Model;
 /// How many values a piece can hold.
 pub(crate) const PLACES: usize = 1024;
 
-/// A ring with capacity for `PLACES` values.
+/// A piece of a list: a ring with capacity for `PLACES` values.
 #[derive(Drop)]
 pub(crate) struct Piece<T> {
     ring: VecDeque<T>,

@@ -71,7 +71,8 @@ impl<T: Drop> Pieces<T> {
         Ok(())
     }
 
-    /// Reserves capacity for more values. Fails only if memory is refused, or if more than `MOST_PIECES` pieces would be needed.
+    /// Reserves capacity for `additional` more values. Fails only if memory is refused, or if more than `MOST_PIECES` pieces would be
+    /// needed.
     pub fn reserve(&mut self, additional: usize) -> Result<(), AllocError>
         ensures items { self.new.items ≡ self.old.items }
         ensures spare { self.old.spare ≤ self.new.spare }

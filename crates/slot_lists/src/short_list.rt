@@ -8,8 +8,8 @@ use std::alloc::{AllocError, Global};
 use std::marker::Model;
 use std::mem;
 
-/// How a list is laid out in memory. A list that got capacity for more than one value is in a `Box`, so that a `ShortList` takes few bytes
-/// beside that `Box`.
+/// How a list is laid out in memory. Once capacity for more than one value was reserved, the list is in a `Box` (`Many`). So a `ShortList`
+/// itself takes few bytes.
 #[derive(Drop)]
 enum Layout<T> {
     Empty,
@@ -17,8 +17,8 @@ enum Layout<T> {
     Many(Box<SlotList<T>>),
 }
 
-/// A list, and capacity for more values. A list that never had capacity for more than one value keeps its value in itself, and takes no
-/// block of memory.
+/// A list, and capacity for more values. Until capacity for more than one value is reserved, the list keeps its value, if it has one, in
+/// the `ShortList` itself, and takes no block of memory.
 #[derive(Drop)]
 pub struct ShortList<T> {
     layout: Layout<T>,
@@ -94,7 +94,8 @@ impl<T: Drop> ShortList<T> {
         }
     }
 
-    /// Reserves capacity for more values. Fails only if memory is refused, and then the values stay and no capacity is lost.
+    /// Reserves capacity for `additional` more values. Fails only if memory is refused, or if more than 2^32 pieces would be needed. After
+    /// a failure the values are as they were, and no capacity is lost.
     pub fn reserve(&mut self, alloc: Global, additional: usize) -> Result<(), AllocError>
         ensures items { self.new.items ≡ self.old.items }
         ensures ok { OnOk result (additional ≤ self.new.spare) }
@@ -119,7 +120,8 @@ impl<T: Drop> ShortList<T> {
         }
     }
 
-    /// Inserts a value, for which there is capacity, before the value at an index or at the end. Takes no memory.
+    /// Inserts a value, for which there is capacity, before the value at an index, or at the end if the index is the number of values.
+    /// Takes no memory.
     pub fn insert(&mut self, index: usize, value: T)
         requires room { 0 < self.old.spare }
         requires in_range { index ≤ length self.old.items }
@@ -165,7 +167,8 @@ impl<T: Drop> ShortList<T> {
     }
 }
 
-/// An empty list in a `Box`, with capacity for `places` values. Fails only if memory is refused.
+/// An empty list in a `Box`, with capacity for `places` values. Fails only if memory is refused, or if more than 2^32 pieces would be
+/// needed.
 fn in_box<T: Drop>(alloc: Global, places: usize) -> Result<Box<SlotList<T>>, AllocError>
     ensures items { IfOk result (λ b. b.value.items ≡ []) }
     ensures spare { IfOk result (λ b. places ≤ b.value.spare) }

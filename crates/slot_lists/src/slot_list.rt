@@ -9,9 +9,10 @@ use std::alloc::{AllocError, AllocFailed, Global};
 use std::marker::Model;
 use std::mem;
 
-/// A list is in one block until `reserve` moves it into pieces: `reserve` does this if the list, together with the values for which it
-/// reserves capacity, is longer than one piece. So a long list is in one block only if it was made from a `Vec`, and `reserve` has not
-/// moved it since. A list in pieces stays in pieces when it becomes short, until `replace` puts the block of a `Vec` in their place.
+/// A list is in one block until `reserve` moves it into pieces. `reserve` does this if one piece can't hold the values of the list together
+/// with the values for which capacity is to be reserved. So a long list is in one block only if it was made from a `Vec` (by `from_vec` or
+/// `replace`), and `reserve` has not moved it since. A list in pieces stays in pieces when it becomes short, until `replace` puts the block
+/// of a `Vec` in place of the pieces.
 #[derive(Drop)]
 enum Layout<T> {
     Short(Vec<T>),
@@ -19,7 +20,7 @@ enum Layout<T> {
 }
 
 /// A list, and capacity for more values. An insert or a removal at any index takes at most about 1,024 steps, as many as a full piece has
-/// values, plus one step for each piece of the list. Only a long list that is still in the block of a `Vec` takes more steps.
+/// values, plus one step for each piece of the list. It takes more steps only if a long list is still in the block of a `Vec`.
 #[derive(Drop)]
 pub struct SlotList<T> {
     layout: Layout<T>,
@@ -106,8 +107,9 @@ impl<T: Drop> SlotList<T> {
         }
     }
 
-    /// Reserves capacity for more values. If the list together with these values is longer than one piece, moves the list into pieces.
-    /// Fails only if memory is refused, and then the values stay and no capacity is lost.
+    /// Reserves capacity for `additional` more values. If one piece can't hold the values of the list together with these values, moves the
+    /// list into pieces. Fails only if memory is refused, or if more than 2^32 pieces would be needed. After a failure the values are as
+    /// they were, and no capacity is lost.
     pub fn reserve(&mut self, additional: usize) -> Result<(), AllocError>
         ensures items { self.new.items ≡ self.old.items }
         ensures ok { OnOk result (additional ≤ self.new.spare) }
@@ -127,7 +129,8 @@ impl<T: Drop> SlotList<T> {
         }
     }
 
-    /// Inserts a value before the value at an index, or at the end. If memory is refused, the value is given back and nothing has changed.
+    /// Inserts a value before the value at an index, or at the end if the index is the number of values. If memory is refused, the value is
+    /// given back and nothing has changed.
     pub fn insert(&mut self, index: usize, value: T) -> Result<(), AllocFailed<T>>
         requires { index ≤ length self.old.items }
         ensures items { self.new.items ≡ (if is_ok result then insert self.old.items index value else self.old.items) }
@@ -212,8 +215,8 @@ impl<T: Drop> SlotList<T> {
     }
 }
 
-/// Reserves capacity in the block of a short list. If the block has to grow, its capacity grows by at least a half of its old capacity,
-/// however few values it has, but not above `PLACES` values.
+/// Reserves capacity for `additional` more values in the block of a short list. If the block has to grow, its capacity grows by at least
+/// half of the old capacity, even if the block has few values. But the capacity does not grow above `PLACES` values.
 fn reserve_in_block<T: Drop>(values: &mut Vec<T>, additional: usize) -> Result<(), AllocError>
     requires { vec_len values.old + additional ≤ 1024 }
     ensures items { values.new.items ≡ values.old.items }
@@ -229,7 +232,8 @@ fn reserve_in_block<T: Drop>(values: &mut Vec<T>, additional: usize) -> Result<(
     values.reserve_exact(additional.max(grown).min(free))
 }
 
-/// Moves the values of a block into pieces, with capacity for `additional` more values. If memory is refused, the values stay in the block.
+/// Moves the values of a block into pieces, with capacity for `additional` more values. Fails only if memory is refused, or if more than
+/// 2^32 pieces would be needed, and then the values stay in the block.
 fn in_pieces<T: Drop>(values: &mut Vec<T>, additional: usize) -> Result<Box<Pieces<T>>, AllocError>
     ensures items { IfOk result (λ p. p.value.items ≡ values.old.items) }
     ensures spare { IfOk result (λ p. additional ≤ p.value.spare) }

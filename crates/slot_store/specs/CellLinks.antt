@@ -22,8 +22,8 @@ use Rattle.node_slots.specs.Cells.{Cells, HasKeys, cells, ends_of}
 
 ---------------------------------------------------------------- links
 
--- the link of the object o at position k in the end e; g is the opposite of e's feature, if it has one; the position of the link at the far
--- end is the index of e's node there
+-- the link of the object o at position k in the end e. If e's feature has an opposite, it is g, and the position of the link at the far end
+-- is the index of e's node among the values of the far end
 abbrev pub link_to : Cells → End → ℕ → ObjectNo → Option FeatureNo → Link
 link_to c e k o None = record { end = e; index = k; far = Alone o; container = (c.pairing e).container }
 link_to c e k o (Some g) = joined_link e k (far_end o g) (index_in (c.vals (far_end o g)) (node_value e.node)) (c.pairing e).container
@@ -66,8 +66,8 @@ pub record IsMutual (c : Cells) (e : End) (o : ObjectNo) (g : FeatureNo) : Type 
   pub opposite : (c.pairing (far_end o g)).opposite ≡ Some e.feature
   pub container : (c.pairing (far_end o g)).container ≡ (c.pairing e).container
 
--- each end that has a value is among es; each end is a list of objects and proxies without repeats, with at most as many values as an end
--- may have; for a feature with an opposite, each link is in the lists of both ends
+-- each end that has a value is among es; the values of an end are objects and proxies, each of them once, and at most `most` of them; if an
+-- end's feature has an opposite, each link from the end to an object is as `IsMutual` says, and so is in the lists of both ends
 pub record AreLists (c : Cells) (es : List End) : Type 0 where
   pub keys : HasKeys c es
   pub references : (e : End) (k : ℕ) (v : Value) → slice_get (c.vals e) k ≡ Some v → IsReference v
@@ -88,8 +88,8 @@ pub record RepeatNothing (c : Cells) : Type 0 where
   pub values : (e : End) → IsDistinct (c.vals e)
   pub entries : (o : ObjectNo) → IsOnce (c.entered (node.Object o))
 
--- the lists agree with each other; no node is contained twice, and the holders agree with the links; each object has as entries exactly the
--- ends without opposite that have the object, each of them once
+-- the lists are as `AreLists` says; no node is contained twice, and the holders agree with the links; the entries of each object are
+-- exactly the ends without opposite that have the object as a value, each of them once
 pub record IsKept (c : Cells) (es : List End) : Type 0 where
   pub lists : AreLists c es
   pub held : IsHeldOnce (cell_links c es)

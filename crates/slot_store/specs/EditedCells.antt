@@ -1,5 +1,6 @@
--- The cells after each edit of links: the values of each end, the end that contains each node, and the entries of each object. The entries
--- of an object are the ends without opposite that have the object as a value.
+-- The cells after each edit of links. The cells are, for each end, its values, and the opposite and the containing feature of the end's
+-- feature; for each node, the end that contains the node; and for each object, its entries. The entries of an object are the ends without
+-- opposite that have the object as a value.
 use Rattle.std.specs.Prelude.{◌≡◌, ℕ, ◌+◌, ◌≤◌, true, position, Option, Some, None, if◌then◌else◌}
 use Rattle.std.specs.Option.{option_map_or}
 use Rattle.mm_types.specs.Same.{node_value, same_end, same_feature, same_value}
@@ -20,8 +21,8 @@ use Rattle.node_slots.specs.declared.slot.SlotEdit.TheVariants.{Insert, Push, Re
 use Rattle.node_slots.specs.declared.row.RowEdit.TheVariants.{Change, Hold, Enter, Leave}
 use Rattle.node_slots.specs.Cells.{Cells, Room, cell_edit}
 
--- the node that the far end of a link from the end e to the object o contains, with this far end: e's node, if the opposite g of e's
--- feature is the containing feature h; else none
+-- the node that the far end of a link from the end e to the object o contains, with this far end. If the opposite g of e's feature is the
+-- containing feature h, the node is e's node; else there is none
 abbrev pub held_far : End → ObjectNo → Option FeatureNo → FeatureNo → Option (Node × End)
 held_far e o None h = None
 held_far e o (Some g) h = if same_feature g h then Some (e.node, far_end o g) else None
@@ -33,8 +34,8 @@ abbrev pub held_node : End → ObjectNo → Option FeatureNo → Option FeatureN
 held_node e o g None = None
 held_node e o g (Some h) = if same_feature e.feature h then Some (node.Object o, e) else held_far e o g h
 
--- the index of the row of the node that is contained through a link: the row of the far node if e's feature is the containing feature h,
--- else the row of the near node
+-- the index of the row of the node that is contained through a link from the end e: of the far node if e's feature is the containing
+-- feature h, else of the near node, which is e's node. If no node is contained, the index of the near node's row
 abbrev pub held_row_index : PutPlaces → End → Option FeatureNo → ℕ
 held_row_index p e None = p.near
 held_row_index p e (Some h) = if same_feature e.feature h then p.far else p.near
@@ -78,7 +79,8 @@ cut_far e o (Some g) c = without_value (far_end o g) (node_value e.node) c
 abbrev pub cut_cells : End → ObjectNo → Option FeatureNo → Option FeatureNo → Cells → Cells
 cut_cells e o g h c = cells_after_release (held_node e o g h) (without_value e (value.Object o) (cut_far e o g c))
 
--- the cells after the link of a value is cut: the link of an object at both ends, the link of a proxy at its one end
+-- the cells after the link of a value in the end e is cut: the link of an object is taken out on both sides, the link of a proxy out of e
+-- alone
 abbrev pub cells_after_cut : End → Value → Cells → Cells
 cells_after_cut e (value.Object o) c = cut_cells e o (c.pairing e).opposite (c.pairing e).container c
 cells_after_cut e v c = without_value e v c

@@ -12,7 +12,7 @@ use Rattle.links.specs.Links.{far_end, object_of}
 use Rattle.node_slots.specs.declared.slot.Slot.{Slot}
 use Rattle.node_slots.specs.Cells.{Cells}
 
--- the end of a feature at an object; none if there is no object
+-- the end of the feature f at an object; no end if there is no object
 abbrev pub far_of : FeatureNo → Option ObjectNo → List End
 far_of f None = []
 far_of f (Some o) = far_end o f ∷ []
@@ -25,11 +25,11 @@ abbrev pub far_ends_of : Option FeatureNo → List Value → List End
 far_ends_of None vs = []
 far_ends_of (Some f) vs = far_ends f vs
 
--- the far ends of the links of an end, if its feature has an opposite
+-- the far ends of the links of the end e; no end if e's feature has no opposite
 abbrev pub ends_at : Cells → End → List End
 ends_at c e = far_ends_of (c.pairing e).opposite (c.vals e)
 
--- for each of the object's slots whose feature has an opposite, the far ends of the links of that feature
+-- the far ends of the links of the object o under the features of the slots ss; no end for a feature with no opposite
 abbrev pub paired_ends : Cells → ObjectNo → List Slot → List End
 paired_ends c o [] = []
 paired_ends c o (s ∷ ss) = ends_at c (far_end o s.feature) ++ paired_ends c o ss
@@ -42,6 +42,6 @@ entering_ends c o ss = paired_ends c o ss ++ c.entered (node.Object o)
 abbrev pub found_in : Cells → Value → End → Option ℕ
 found_in c v e = position (same_value v) (c.vals e)
 
--- each list has at most as many values as an end may have
+-- each end has at most `most` values
 abbrev pub AreFew : Cells → Type 0
 AreFew c = (e : End) → length (c.vals e) ≤ most

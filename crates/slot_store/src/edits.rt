@@ -28,9 +28,9 @@ pub(crate) fn value_of(node: Node) -> Value
     }
 }
 
-/// For a link from `end` to `object` through which `object` contains the node of `end`: this node, and the end of `object` that contains
-/// it. `opposite` is the opposite of the feature of `end`, and `container` the containing feature. `None` if there is no opposite, or if
-/// the opposite is not the containing feature.
+/// The node that the far end of a link contains, and this far end. The link is from `end` to `object`. `opposite` is the opposite of the
+/// feature of `end`, and `container` is the containing feature. If the opposite is the containing feature, the far end contains the node of
+/// `end`. Otherwise, and if there is no opposite, the result is `None`.
 fn held_by_far(
     end: End,
     object: ObjectNo,
@@ -88,8 +88,9 @@ fn take_out_entry(rows: &mut NodeSlots, end: End, object: ObjectNo, guess: usize
     }
 }
 
-/// Takes a link out of its far side: with an opposite, takes the node of `end` out of the opposite end at `object`; without an opposite,
-/// takes `end` out of the entries of `object`.
+/// Takes the link from `end` to `object` out of its far side. `opposite` is the opposite of the feature of `end`. If there is an opposite,
+/// takes the node of `end` out of the opposite end at `object`. Otherwise takes `end` out of the entries of `object`, and first looks for
+/// it at the index `guess`.
 fn take_out_far(
     rows: &mut NodeSlots,
     end: End,
@@ -108,7 +109,7 @@ fn take_out_far(
     }
 }
 
-/// Records that no end contains the node of `pair`. Without a pair nothing changes.
+/// Records that no end contains the node of `pair`. If `pair` is `None`, nothing changes.
 fn release(rows: &mut NodeSlots, pair: Option<(Node, End)>)
     ensures cells { cells rows.new ≡ cells_after_release pair (cells rows.old) }
     ensures room { TakesAtMost no_values no_ends (room rows.old) (room rows.new) }
@@ -118,8 +119,9 @@ fn release(rows: &mut NodeSlots, pair: Option<(Node, End)>)
     }
 }
 
-/// Cuts the link of an object in an end: takes the link out of its far side and then out of the end, and records that the node that the
-/// link contained, if any, is contained no more.
+/// Cuts the link from `end` to `object`: takes the link out of its far side and then out of `end`. If a node was contained through the
+/// link, records that no end contains this node any more. If `end` has no opposite, it is first looked for at the index `guess` among the
+/// entries of `object`.
 fn cut(rows: &mut NodeSlots, end: End, object: ObjectNo, guess: usize)
     requires { RepeatNothing (cells rows.old) }
     ensures cells { cells rows.new ≡ cells_after_cut end (value.Object object) (cells rows.old) }
@@ -131,7 +133,7 @@ fn cut(rows: &mut NodeSlots, end: End, object: ObjectNo, guess: usize)
     release(rows, held_by(end, object, pairing));
 }
 
-/// Cuts the link of a value in an end.
+/// Cuts the link of a value in an end: the link to an object, or a proxy. `guess` is used as by `cut`.
 fn cut_value(rows: &mut NodeSlots, end: End, value: &Value, guess: usize)
     requires { RepeatNothing (cells rows.old) }
     ensures cells { cells rows.new ≡ cells_after_cut end value.now (cells rows.old) }
@@ -143,8 +145,9 @@ fn cut_value(rows: &mut NodeSlots, end: End, value: &Value, guess: usize)
     }
 }
 
-/// The row index of the node that is contained through a link; `places` has the row indexes of both nodes of the link. If nothing is
-/// contained through the link, the result is the row index of the near node.
+/// The row index of the node that is contained through a link from `end`. `places` has the row indexes of both nodes of the link, and
+/// `container` is the containing feature. If nothing is contained through the link, the result is the row index of the near node, which is
+/// the node of `end`.
 fn held_row_index(places: PutPlaces, end: End, container: Option<FeatureNo>) -> usize
     ensures { result ≡ held_row_index places end container }
 {
@@ -154,8 +157,8 @@ fn held_row_index(places: PutPlaces, end: End, container: Option<FeatureNo>) -> 
     }
 }
 
-/// Records which end contains a node: `pair` is the node and that end, and `row_index` is the index of the node's row. Without a pair
-/// nothing changes.
+/// Records that the end of `pair` contains the node of `pair`; `row_index` is the index of this node's row. If `pair` is `None`, nothing
+/// changes.
 fn hold(rows: &mut NodeSlots, row_index: usize, pair: Option<(Node, End)>)
     requires row { HasHeldRow pair (room rows.old) }
     requires at { IfSome pair (λ p. row_index_of rows.old p.0 ≡ Some row_index) }
@@ -167,7 +170,9 @@ fn hold(rows: &mut NodeSlots, row_index: usize, pair: Option<(Node, End)>)
     }
 }
 
-/// Puts a link in at its far side; `row_index` is the index of the row of the link's object.
+/// Puts a link in at its far side. There has to be capacity for the link. If there is an opposite, the opposite end at the link's object
+/// gets the node of the link's end as its last value. Otherwise the object gets the link's end as its last entry. `row_index` is the index
+/// of the object's row.
 fn put_in_far(rows: &mut NodeSlots, row_index: usize, link: NewLink)
     requires object { PairsObject link.end link.opposite }
     requires room { FarHasRoom link.object link.opposite (room rows.old) }
@@ -194,8 +199,8 @@ fn put_in_far(rows: &mut NodeSlots, row_index: usize, link: NewLink)
     }
 }
 
-/// Puts a value in at `index` of an end; `row_index` is the index of the row of the end's node. If the value is an object, `pairing` has
-/// the opposite and the containing feature of the end's feature.
+/// Puts a value in at `index` of an end. There has to be capacity for the value. `row_index` is the index of the row of the end's node. If
+/// the value is an object, `pairing` has the opposite and the containing feature of the end's feature. For a proxy, `pairing` is `None`.
 fn put_in(
     rows: &mut NodeSlots,
     row_index: usize,
@@ -219,7 +224,7 @@ fn put_in(
     rows.edit_at(end.node, row_index, RowEdit::Change(end.feature, edit));
 }
 
-/// Puts a link in; `places` has the row indexes of its two nodes.
+/// Puts a link in. There has to be capacity for the link. `places` has the row indexes of the two nodes of the link.
 #[inline(always)]
 fn put(rows: &mut NodeSlots, places: PutPlaces, link: NewLink)
     requires object { PairsObject link.end link.opposite }
@@ -250,8 +255,8 @@ fn put(rows: &mut NodeSlots, places: PutPlaces, link: NewLink)
     );
 }
 
-/// The row indexes of the two nodes of a put: of the node of `end`, and of `object`. Both nodes have a row, since capacity was reserved for
-/// the put.
+/// The row indexes of the two nodes of a put: of the node of `end`, and of `object`. Both nodes must have a row; they have one once
+/// capacity was reserved for the put.
 fn places_of(rows: &NodeSlots, end: End, object: ObjectNo) -> PutPlaces
     requires near { (room rows.now).rows end.node ≡ true }
     requires far { (room rows.now).rows (node.Object object) ≡ true }
@@ -264,7 +269,7 @@ fn places_of(rows: &NodeSlots, end: End, object: ObjectNo) -> PutPlaces
     }
 }
 
-/// Reserves capacity for a link, and puts it in. Fails only if memory is refused; no value changes then.
+/// Reserves capacity for a link, and puts the link in. Fails only if memory is refused; then no value changes.
 pub(crate) fn put_with_room(rows: &mut NodeSlots, link: NewLink) -> Result<(), AllocError>
     requires { PairsObject link.end link.opposite }
     ensures { cells rows.new ≡ (if is_ok result then cells_after (edit.Put link) (cells rows.old) else cells rows.old) }
@@ -286,8 +291,9 @@ fn shift(rows: &mut NodeSlots, end: End, to: u32, from: u32)
     rows.edit(end.node, RowEdit::Change(end.feature, edit));
 }
 
-/// Makes one edit, for which there is capacity. If the edit takes an end out of the entries of an object, that end is first looked for at
-/// the index `guess`. Takes no memory.
+/// Makes one edit. There has to be capacity for the edit. If the edit takes an end out of the entries of an object, that end is first
+/// looked for at the index `guess`. Takes no memory.
+#[inline(always)]
 pub(crate) fn edit_rows(rows: &mut NodeSlots, edit: Edit, guess: usize)
     requires object { PutsObject edit }
     requires room { HasRoom (room rows.old) (edit ∷ []) }

@@ -1,5 +1,6 @@
-//! The ends that have an object as a value, and its position in each of them. An end whose feature has an opposite is found from the
-//! object's own lists of values. An end without opposite is an entry, and is kept in the row of the object.
+//! The ends that have an object as a value, and the object's position in each of these ends. If the feature of an end has an opposite, the
+//! end is found from the object's own lists of values. If the feature has no opposite, the end is one of the entries of the object. The
+//! entries of an object are the ends without opposite that have the object as a value; they are in the object's row.
 ghost use Rattle.std.specs.Prelude.{◌≡◌, ◌++◌, IfOk, OnOk};
 ghost use Rattle.std.specs.Option.{option_copied, option_to_list};
 ghost use Rattle.mm_types.specs.declared.numbers.Node.TheVariants as node;
@@ -16,7 +17,7 @@ use mm_types::{End, FeatureNo, Node, ObjectNo, Value};
 use node_slots::{NodeSlots, Slot};
 use std::alloc::{AllocError, Global};
 
-/// Adds the end of a feature at an object's node, if there is an object.
+/// Adds the end of `feature` at `object`, if there is an object.
 fn push_far(
     object: Option<ObjectNo>,
     feature: FeatureNo,
@@ -48,7 +49,7 @@ fn push_far_ends(
     Ok(())
 }
 
-/// Adds the far ends of the links of an end, if its feature has an opposite.
+/// Adds the far ends of the links of an end. If the end's feature has no opposite, adds nothing.
 fn push_ends(rows: &NodeSlots, end: End, out: &mut Vec<End>) -> Result<(), AllocError>
     ensures { OnOk result (out.new.items ≡ out.old.items ++ ends_at (cells rows.now) end) }
 {
@@ -58,7 +59,8 @@ fn push_ends(rows: &NodeSlots, end: End, out: &mut Vec<End>) -> Result<(), Alloc
     }
 }
 
-/// Adds, for each slot of an object whose feature has an opposite, the far ends of the links of that feature.
+/// Adds the far ends of the links of an object under the features of its slots. For a feature with no opposite, adds nothing. `slots` has
+/// the slots of `object`.
 fn push_paired(
     rows: &NodeSlots,
     object: ObjectNo,
@@ -97,7 +99,7 @@ fn push_entered(rows: &NodeSlots, node: Node, out: &mut Vec<End>) -> Result<(), 
     Ok(())
 }
 
-/// The ends that have an object as a value, in no order.
+/// The ends that have an object as a value, in no particular order. Fails only if memory is refused.
 pub(crate) fn entering(
     alloc: Global,
     rows: &NodeSlots,
@@ -112,7 +114,7 @@ pub(crate) fn entering(
     Ok(out)
 }
 
-/// Adds the position of a value in an end, if the value is there.
+/// Adds an end, and the position of a value in the end, if the end has the value.
 fn push_place(
     rows: &NodeSlots,
     end: End,
@@ -133,7 +135,7 @@ fn push_place(
     Ok(())
 }
 
-/// For each of `ends` that has `value`: the position of `value` there.
+/// For each of `ends` that has `value`: the end, and the position of `value` in the end. Fails only if memory is refused.
 pub(crate) fn places_of(
     alloc: Global,
     rows: &NodeSlots,

@@ -1,10 +1,12 @@
 //! The position of a value in an end, and the index of an end among the entries of an object. The entries of an object are the ends without
 //! opposite that have the object as a value.
 //!
-//! Most lists of values are made in the order of their objects' numbers. So the guess of a position assumes that these numbers rise or fall
-//! along the list; the last and the first position are tried first. If a removal finds that the guess in a long list is wrong, the next
-//! reservation for the list gives labels to its objects, if there is memory. The position is then guessed from the labels. A list that may
-//! have proxies gets no labels. The list is searched only if the guess is wrong.
+//! Most lists of values are made in the order of their objects' numbers. So the guess at the position of an object assumes that these
+//! numbers rise or fall along the list; the last and the first position are tried before any other. Some removals from a long list test the
+//! guess. If a tested guess is wrong, the next reservation of capacity for the list gives labels to its objects, if there is memory for the
+//! labels. From then on positions are guessed from the labels. A list that may have proxies gets no labels. The guess at the position of a
+//! proxy assumes that all objects come before all proxies, and that the proxy is the first proxy. A list is searched only if the guess is
+//! wrong.
 //!
 //! Entries may be in any order. A cut that takes an end out of the entries of an object guesses the index of the end. If the guess is
 //! wrong, the entries are sorted by `entry_rank`, so that the next guesses are right.
@@ -66,8 +68,8 @@ pub(crate) fn entry_from(
     }
 }
 
-/// The index of an end among the entries of an object; `None` if the end is not there. This function computes the guess that `entry_from`
-/// needs.
+/// The index of an end among the entries of an object; `None` if the end is not there. Makes a guess at the index, and passes it to
+/// `entry_from`.
 pub(crate) fn entry_found(rows: &NodeSlots, object: ObjectNo, end: End) -> Option<usize>
     requires { IsOnce ((cells rows.now).entered (node.Object object)) }
     ensures { result ≡ position (same_end end) ((cells rows.now).entered (node.Object object)) }

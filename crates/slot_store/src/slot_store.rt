@@ -1,5 +1,5 @@
-//! The store of links that keeps a list at both ends of each link.
-ghost use Rattle.std.specs.Prelude.{◌≡◌, true};
+//! The store of links that keeps each link to an object on both sides of the link.
+ghost use Rattle.std.specs.Prelude.{◌≡◌, ◌∷◌, [], true};
 ghost use Rattle.mm_types.specs.declared.value.Value.TheVariants as value;
 ghost use Rattle.links.specs.Plans.{HasPlanOfKind, PlanFits, links_after_edits};
 ghost use Rattle.node_slots.specs.Cells.{cells, room};
@@ -10,12 +10,15 @@ use crate::edits::{edit_rows, put_with_room, value_of};
 use crate::incoming::{entering, places_of};
 use crate::search::{entry_found, found, ordered_guess};
 use links::{Edit, Incoming, LinkStore, NewLink, Plan, put_in_order};
-use mm_types::{End, Node, ObjectNo, Value};
+use mm_types::{End, FewItems, Node, ObjectNo, Value};
 use node_slots::NodeSlots;
 use std::alloc::{AllocError, Global};
 
-/// Links, kept as a list at both ends of each link, and for each node the end that contains the node. A read of the values of an end, or of
-/// the container of a node, looks only into the row of the node, however many links there are.
+/// Links, and for each node the end that contains the node. Each end has a list of its values. A link to an object is kept on both sides.
+/// The list of its end has the object. If there is an opposite, the list of the opposite end at the object has the node of the end. If
+/// there is no opposite, the end is among the entries of the object: the ends without an opposite that have the object as a value. A proxy
+/// is only in the list of its end. A read of the values of an end, or of the container of a node, looks only into the row of one node,
+/// however many links there are. A search for an object in an end may also look into the row of the object.
 #[derive(Drop)]
 pub struct SlotStore {
     rows: NodeSlots,
@@ -89,7 +92,8 @@ impl LinkStore for SlotStore {
     }
 }
 
-/// Whether the list at the far side shows that an object is not in an end. This list is searched only if it is shorter than the list of the
+/// Whether a search of the far side shows that an object is not in an end. The far side is the list of the opposite end at the object, or,
+/// if the end's feature has no opposite, the list of the object's entries. This list is searched only if it is shorter than the list of the
 /// end; otherwise the result is false.
 fn far_lacks(rows: &NodeSlots, end: End, object: ObjectNo) -> bool
     requires { ∥ IsStore rows.now ∥₁ }
@@ -139,7 +143,35 @@ fn apply_rows(rows: &mut NodeSlots, plan: Plan)
     ensures kept { ∥ IsStore rows.new ∥₁ }
     ensures links { store_links rows.new ≡ links_after_edits (store_links rows.old) plan }
 {
-    for edit in plan.into_vec() {
+    match plan.into_items() {
+        FewItems::One(edit) => apply_edit(rows, edit),
+        FewItems::Many(edits) => apply_edits(rows, edits),
+    }
+}
+
+/// Makes one edit.
+fn apply_edit(rows: &mut NodeSlots, edit: Edit)
+    requires kept { ∥ IsStore rows.old ∥₁ }
+    requires fits { PlanFits (store_links rows.old) (edit ∷ []) }
+    requires of_kind { HasPlanOfKind (IsStoreOfKind rows.old) (edit ∷ []) }
+    requires reserved { HasRoom (room rows.old) (edit ∷ []) }
+    ensures kept { ∥ IsStore rows.new ∥₁ }
+    ensures links { store_links rows.new ≡ links_after_edits (store_links rows.old) (edit ∷ []) }
+{
+    let guess = make_guess(rows, &edit);
+    edit_rows(rows, edit, guess);
+}
+
+/// Makes edits, in their order.
+fn apply_edits(rows: &mut NodeSlots, edits: Vec<Edit>)
+    requires kept { ∥ IsStore rows.old ∥₁ }
+    requires fits { PlanFits (store_links rows.old) edits.items }
+    requires of_kind { HasPlanOfKind (IsStoreOfKind rows.old) edits.items }
+    requires reserved { HasRoom (room rows.old) edits.items }
+    ensures kept { ∥ IsStore rows.new ∥₁ }
+    ensures links { store_links rows.new ≡ links_after_edits (store_links rows.old) edits.items }
+{
+    for edit in edits {
         let guess = make_guess(rows, &edit);
         edit_rows(rows, edit, guess);
     }

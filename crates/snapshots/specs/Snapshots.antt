@@ -19,7 +19,7 @@ abbrev pub feature_state : Reading → Node → FeatureNo → FeatureState
 feature_state r n f =
     let d = at_end n f in record { feature = f; values = (held_at r d).values; flag = flag_of (shape_at r d).is_unsettable (r.flag d) }
 
--- the class of a node; none for a resource
+-- the class of a node; none for a resource, and for an object that does not live
 abbrev pub class_at : Reading → Node → Option ClassNo
 class_at r (node.Object o) = r.class o
 class_at r (node.Resource k) = None
@@ -32,11 +32,11 @@ node_state r n = record { node = n; class = class_at r n; features = map (featur
 abbrev pub nodes : Reading → List Node
 nodes r = map resource_node (range_with_len 0 (length r.uris)) ++ map object_node (range_with_len 0 r.next)
 
--- whether a node is in the snapshot of a target: the node lives, and is the target or below the target
+-- whether one of `nodes` is in the snapshot of a target: it is a resource or a live object, and it is the target or below the target
 abbrev pub is_taken : Reading → Node → Node → Bool
 is_taken r target n = is_node_live r n && is_within r target n
 
--- the states of the target and of each node below it, in the order of `nodes`
+-- the states of the target, if it exists, and of each node below it, in the order of `nodes`
 abbrev pub snapshot_of : Reading → Node → List NodeState
 snapshot_of r target = map (node_state r) (filter (is_taken r target) (nodes r))
 
@@ -50,7 +50,7 @@ own_resource r (node.Resource k) = if has_resource r k then node.Resource k ∷ 
 abbrev pub objects_as_nodes : List ObjectNo → List Node
 objects_as_nodes os = map node.Object os
 
--- the states of the live objects among some objects
+-- the states of the live objects among os, in the order of os
 abbrev pub live_states : Reading → List ObjectNo → List NodeState
 live_states r os = map (node_state r) (filter (is_node_live r) (objects_as_nodes os))
 

@@ -7,7 +7,8 @@ use mm_types::Value;
 use notice_chain::{NO_INDEX, Notice, NoticeKind};
 use std::alloc::AllocError;
 
-/// Replays a notification on the values of the end that it names. Fails only if memory is refused; then the values may be any.
+/// Replays a notification on the values of the end that the notification names. If the notification does not fit the values, they stay as
+/// they are. Fails only if memory is refused; then `values` may have any content.
 pub(crate) fn edit(values: &mut Vec<Value>, notice: &Notice) -> Result<(), AllocError>
     ensures { OnOk result (values.new.items ≡ values_after_notice notice.now.kind notice.now values.old.items) }
 {
@@ -24,7 +25,7 @@ pub(crate) fn edit(values: &mut Vec<Value>, notice: &Notice) -> Result<(), Alloc
     }
 }
 
-/// A position as an index; `None` if the position is negative or is not below a count.
+/// A position as an index; `None` if the position is negative or is not below `count`.
 fn index_at(position: i64, count: usize) -> Option<usize>
     ensures { result ≡ index_within position count }
 {

@@ -9,7 +9,8 @@ use crate::replaying::state_index;
 use mm_types::{ClassNo, FeatureNo, Node, Seq, Value};
 use std::marker::Model;
 
-/// The state of a feature of a node: its values (one null, if a single reference is empty), and the set flag, if the feature is unsettable.
+/// The state of a feature of a node: the values that the node has under the feature (one null, if a single reference is empty), and the set
+/// flag; `flag` is `None` if the feature is not unsettable.
 #[derive(Debug, PartialEq, Drop)]
 pub struct FeatureState {
     pub feature: FeatureNo,
@@ -25,8 +26,8 @@ pub struct NodeState {
     pub features: Seq<FeatureState>,
 }
 
-/// The state of a node and of each node below it at some time. Resources come before objects. Both are in the order of their numbers, and
-/// each node comes once.
+/// The state of a node and of each node below it at some time. The states are in the order of their nodes: resources come before objects,
+/// resources are in the order of their numbers, and so are objects. Each node comes once.
 #[derive(Debug, Drop)]
 pub struct Snapshot {
     nodes: Vec<NodeState>,
@@ -45,7 +46,7 @@ impl Model for Snapshot {
 }
 
 impl Snapshot {
-    /// The snapshot that has the states in `nodes`, which are in the order of their nodes. Takes no memory.
+    /// The snapshot that has the states in `nodes`. They have to be in the order of a snapshot. Takes no memory.
     pub(crate) fn from_vec(nodes: Vec<NodeState>) -> Self
         requires in_order { AreInOrder nodes.items }
         ensures { result ≡ nodes.items }
@@ -53,7 +54,7 @@ impl Snapshot {
         Snapshot { nodes }
     }
 
-    /// The nodes as a `Vec`. Takes no memory.
+    /// The states of the nodes as a `Vec`, in order. Takes no memory.
     pub fn into_vec(self) -> Vec<NodeState>
         ensures nodes { result.items ≡ self }
         ensures in_order { AreInOrder self }
@@ -61,7 +62,7 @@ impl Snapshot {
         self.nodes
     }
 
-    /// The nodes, in order.
+    /// The states of the nodes, in order.
     pub fn nodes(&self) -> &[NodeState]
         ensures nodes { result.now ≡ self.now }
         ensures in_order { AreInOrder self.now }

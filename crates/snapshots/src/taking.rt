@@ -44,7 +44,7 @@ fn objects_below<L: LinkStore>(
     Ok(objects)
 }
 
-/// The state of the target, if it is a resource that exists, and then the states of those of `objects` that live.
+/// The state of the target, if the target is a resource that exists, and then the states of those of `objects` that live.
 fn states_of<L: LinkStore>(
     alloc: Global,
     model: &ModelRef<L>,
@@ -155,7 +155,7 @@ fn feature_state<L: LinkStore>(
     })
 }
 
-/// A copy of the values that are at an end: one null, if a single end is empty.
+/// A copy of the values at an end; one null, if a single end is empty.
 fn shown_values<L: LinkStore>(
     alloc: Global,
     model: &ModelRef<L>,
@@ -170,7 +170,7 @@ fn shown_values<L: LinkStore>(
     Ok(values)
 }
 
-/// The set flag of an unsettable feature, which is always off for a list; `None` for any other feature.
+/// The set flag of an end, if its feature is unsettable; otherwise `None`. The set flag of a list is always off.
 fn flag_at<L: LinkStore>(model: &ModelRef<L>, end: End) -> Option<bool>
     ensures { result ≡ snapshots.flag_of (shape model.now.metamodel end.feature).is_unsettable ((reading model.now).flag end) }
 {

@@ -8,7 +8,7 @@ use Rattle.mm_types.specs.declared.numbers.ObjectNo.{ObjectNo}
 use Rattle.mm_types.specs.declared.value.Value.TheVariants as value
 use Rattle.models.specs.Reading.{Reading, all_features_of, at_end, is_set, shape_at, value_at}
 
--- whether a single end has no value: it is null, or unsettable and not set
+-- whether a single end counts as having no value: its value is null, or its feature is unsettable and not set
 abbrev pub is_missing : Reading → End → Bool
 is_missing r e = same_value value.Null (value_at r e) || ((shape_at r e).is_unsettable && not (is_set r e))
 

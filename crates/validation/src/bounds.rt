@@ -14,8 +14,8 @@ use models::{Found, ModelRef, is_same};
 use std::alloc::{AllocError, Global};
 
 /// The features of an object that have fewer values than their lower bounds, in the order of all features of its class (EMF:
-/// Diagnostician.validate, of multiplicities; MOF 2.5.1: MultiplicityElement.lower). A single feature whose lower bound is 1 has too few
-/// values if its value is null, or if the feature is unsettable and not set. Fails only if memory is refused.
+/// Diagnostician.validate, but only for multiplicities; MOF 2.5.1: MultiplicityElement.lower). A single feature whose lower bound is 1 has
+/// too few values if its value is null, or if the feature is unsettable and not set. Fails only if memory is refused.
 pub fn short_features<L: LinkStore>(
     alloc: Global,
     model: &ModelRef<L>,
@@ -49,7 +49,7 @@ fn is_too_few<L: LinkStore>(model: &ModelRef<L>, end: End) -> bool
     i64::from(model.len(end)) < i64::from(lower)
 }
 
-/// The lower bound of a feature.
+/// The lower bound of a feature; 0 if the metamodel has no feature of this number.
 fn lower_bound(meta: &Meta, feature: FeatureNo) -> i32
     ensures { result ≡ (shape meta.now feature).lower }
 {
@@ -59,7 +59,7 @@ fn lower_bound(meta: &Meta, feature: FeatureNo) -> i32
     }
 }
 
-/// Whether a single end is null, or unsettable and not set.
+/// Whether the value of a single end is null, or the end's feature is unsettable and not set.
 fn is_missing<L: LinkStore>(model: &ModelRef<L>, end: End) -> bool
     ensures { result ≡ bounds.is_missing (reading model.now) end }
 {

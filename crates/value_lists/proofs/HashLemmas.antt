@@ -16,13 +16,6 @@ use Rattle.value_lists.specs.declared.hash_counts.HashCounts.{HashCounts}
 abbrev pub one_of : ℕ → Value → ℕ
 one_of h v = cond (has_hash h v) 1 0
 
-pub counts-insert : (t t' : HashCounts) (vs : List Value) (i k : ℕ) (v : Value) → Counts t vs → k ≡ hash_of v → ((h : ℕ) → count_in t' h ≡ count_in t h + cond (eqb k h) 1 0) → Counts t' (insert vs i v)
-counts-insert t t' vs i k v counts is added h =
-    let new = added h in
-    let old = counts h in
-    let same : cond (eqb k h) 1 0 ≡ one_of h v = ap (λ n. cond (eqb n h) 1 0) is in
-    omega (arith, new, old, same, sum_by-insert (one_of h) vs i v)
-
 get_or-slice_get : (vs : List Value) (i : ℕ) (v : Value) → Some v ≡ slice_get vs i → get_or vs i v ≡ v
 get_or-slice_get [] i v is = cc
 get_or-slice_get (x ∷ vs) zero v is = cc

@@ -11,7 +11,7 @@ use Rattle.mm_types.specs.declared.value.Value.TheVariants as value
 use Rattle.value_lists.specs.declared.hash_counts.Counted.{Counted}
 use Rattle.value_lists.specs.declared.hash_counts.HashCounts.{HashCounts}
 
--- the part of a value that is hashed: its kind and its content
+-- what a hasher is fed for a value: a number for the kind of the value, and its content
 abbrev pub fed_by : Value → fed.HashWrites
 fed_by value.Null = fed.u8 0
 fed_by (value.Bool b) = fed.u8 1 ++ fed.bool b
@@ -35,11 +35,11 @@ count_of (Some c) = c.count
 abbrev pub count_in : HashCounts → ℕ → ℕ
 count_in t h = count_of (get nat_eq t.counts h)
 
--- the table counts, for each hash, the values of the list that have the hash
+-- the table t has the right counts: for each hash, the number of values of the list vs that have the hash
 abbrev pub Counts : HashCounts → List Value → Type 0
 Counts t vs = (h : ℕ) → count_in t h ≡ count_by (has_hash h) vs
 
--- whether a value is at an index
+-- whether the value at the index i of the list vs is the same as v; false if no value is there
 abbrev pub is_at : Value → ℕ → List Value → Bool
 is_at v i vs = option_map_or (same_value v) (slice_get vs i) false
 
@@ -47,7 +47,7 @@ is_at v i vs = option_map_or (same_value v) (slice_get vs i) false
 abbrev pub ValuePlaces : Type 0
 ValuePlaces = Places Value
 
--- the view of a list and its table; the capacity is the smaller one of the capacities of the list and of the table, since each insert needs
--- capacity in both
+-- what contracts see of a list with its table: the values of the list p, and as capacity the smaller one of the capacities of the list and
+-- of the table t, since each insert needs capacity in both
 abbrev pub places_in_both : ValuePlaces → HashCounts → ValuePlaces
 places_in_both p t = record { items = p.items; spare = min p.spare (spare t.counts) }

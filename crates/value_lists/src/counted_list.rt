@@ -14,14 +14,15 @@ use std::alloc::{AllocError, Global};
 use std::marker::Model;
 use std::mem;
 
-/// A list, and how many of its values have each hash. Contracts see the values and one capacity: the smaller one of the capacities of the
-/// list and of the table.
+/// A list with a table that counts how many of its values have each hash. Contracts see the values and one capacity: the smaller one of the
+/// capacities of the list and of the table.
 #[derive(Drop)]
 pub(crate) struct CountedList {
     list: SlotList<Value>,
     hashes: HashCounts,
     labels: Labels,
-    /// Whether each value that is put in or moved gets a label between the labels of its neighbours.
+    /// Whether a value that is put in or moved between others gets a label between the labels of its neighbours. If not, a value that is
+    /// put in between others gets a label computed from its index, and a value that is moved keeps its label.
     is_labelled: bool,
 }
 
@@ -54,8 +55,8 @@ impl CountedList {
         }
     }
 
-    /// Moves a list into a `Box`, with its hashes counted. Fails only if memory is refused, and then the list stays where it is: the `Box`
-    /// and the table are made before the list is moved.
+    /// Moves a list into a `Box`, with the hashes of its values counted, and leaves an empty list. Fails only if memory is refused, and
+    /// then the list stays where it is: the `Box` and the table are made before the list is moved.
     pub fn of(alloc: Global, list: &mut SlotList<Value>) -> Result<Box<CountedList>, AllocError>
         ensures items { IfOk result (λ c. c.value.items ≡ list.old.items) }
         ensures spare { IfOk result (λ c. list.old.spare ≤ c.value.spare) }
@@ -87,9 +88,9 @@ impl CountedList {
         self.list.get(index)
     }
 
-    /// The index of the first value that is the same as `value`. The list is not gone through if no value of it has the hash of the given
-    /// value. The list is not gone through either if only one value has this hash and is found by its label, since then no other value is
-    /// the same.
+    /// The index of the first value that is the same as `value`; `None` if there is none. There are two cases in which the list is not gone
+    /// through: no value of the list has the hash of `value`; or only one value of the list has this hash, and `value` is found by the
+    /// label of the hash. In the second case no other value is the same as `value`.
     pub fn position(&self, value: &Value) -> Option<usize>
         ensures { result ≡ position (same_value value.now) self.now.items }
     {
@@ -104,8 +105,8 @@ impl CountedList {
         self.list.position(value)
     }
 
-    /// Whether a value is there. The list is not gone through if no value of it has the hash of the given value, or if the given value is
-    /// found by the label of its hash.
+    /// Whether a value of the list is the same as `value`. There are two cases in which the list is not gone through: no value of the list
+    /// has the hash of `value`, or `value` is found by the label of this hash.
     pub fn has(&self, value: &Value) -> bool
         ensures { result ≡ list_any (same_value value.now) self.now.items }
     {
@@ -118,7 +119,7 @@ impl CountedList {
         self.list.position(value).is_some()
     }
 
-    /// An index at which the value is, guessed by the label of its hash; `None` if the value is at no guessed index.
+    /// An index at which `value` is, guessed by `label`, the label of the hash of `value`; `None` if `value` is at no guessed index.
     fn find(&self, label: u64, value: &Value) -> Option<usize>
         ensures { IfSome result (λ i. is_at value.now i self.now.items ≡ true) }
     {
@@ -129,9 +130,9 @@ impl CountedList {
         self.find_farther(label, value)
     }
 
-    /// An index at which the value is, guessed by the label of its hash; `None` if the value is at no guessed index. `find` calls this
-    /// function if its own guess is wrong. The guess of `find` is right if the label of the first value is known exactly, and the labels
-    /// from that label up to `label` are as far apart as new labels are.
+    /// An index at which `value` is, guessed by `label`, the label of the hash of `value`; `None` if `value` is at no guessed index. `find`
+    /// calls this function if its own guess is wrong. The guess of `find` is right if `label` is still the label of `value`, the label of
+    /// the first value of the list is known exactly, and the labels from that label up to `label` are as far apart as new labels are.
     #[cold]
     fn find_farther(&self, label: u64, value: &Value) -> Option<usize>
         ensures { IfSome result (λ i. is_at value.now i self.now.items ≡ true) }
@@ -149,7 +150,7 @@ impl CountedList {
         None
     }
 
-    /// Whether a value is at an index.
+    /// Whether the value at an index is the same as `value`; false past the end.
     fn has_at(&self, index: usize, value: &Value) -> bool
         ensures { result ≡ is_at value.now index self.now.items }
     {
@@ -170,8 +171,8 @@ impl CountedList {
         }
     }
 
-    /// Reserves capacity for more values, in the list and in the table. Fails only if memory is refused, and then the values stay and no
-    /// capacity is lost.
+    /// Reserves capacity for `additional` more values, in the list and in the table. Fails only if memory is refused, and then the values
+    /// stay and no capacity is lost.
     pub fn reserve(&mut self, additional: usize) -> Result<(), AllocError>
         ensures items { self.new.items ≡ self.old.items }
         ensures ok { OnOk result (additional ≤ self.new.spare) }
@@ -181,7 +182,8 @@ impl CountedList {
         self.hashes.reserve(additional)
     }
 
-    /// Inserts a value, for which there is capacity, before the value at an index or at the end. Takes no memory.
+    /// Inserts a value before the value at `index`, or at the end if `index` is the length of the list. There has to be capacity for the
+    /// value. Takes no memory.
     pub fn insert(&mut self, index: usize, value: Value)
         requires room { 0 < self.old.spare }
         requires in_range { index ≤ length self.old.items }
@@ -200,7 +202,7 @@ impl CountedList {
         self.labels.put(label, len);
     }
 
-    /// A label for a value that is put in before the value at an index, or at the end.
+    /// A label for a value that is to be put in before the value at `index`, or at the end if `index` is the length of the list.
     fn label_before(&self, index: usize) -> u64 {
         if index == self.list.len() {
             return self.labels.after();
@@ -214,8 +216,9 @@ impl CountedList {
         self.labels.near(index)
     }
 
-    /// A label between the label of the value before `index` and the label of the value at `next`. If there is no value at `next`, the
-    /// label is after the last label. Otherwise, if there is no value before `index`, the label is before the first label.
+    /// A label between the label of the value before `index` and the label of the value at `next`; the first of these two labels if no
+    /// label is between them. If there is no value at `next`, the label is greater than the last label. Otherwise, if there is no value
+    /// before `index`, the label is less than the first label.
     #[cold]
     fn label_amid(&self, index: usize, next: usize) -> u64 {
         if next >= self.list.len() {
@@ -250,7 +253,7 @@ impl CountedList {
         }
     }
 
-    /// Whether the value at an index is found by its label.
+    /// Whether the value at an index, or another value that is the same, is found by the label of its hash; false past the end.
     #[cold]
     fn is_found(&self, index: usize) -> bool {
         match self.list.get(index) {
@@ -262,7 +265,8 @@ impl CountedList {
         }
     }
 
-    /// Gives all values new labels, and sets `is_labelled`.
+    /// Gives all values new labels, and sets `is_labelled`. If several values have a hash, the new label of the last of them becomes the
+    /// label of the hash.
     #[cold]
     fn label_all(&mut self)
         ensures items { self.new.items ≡ self.old.items }
@@ -314,8 +318,8 @@ impl CountedList {
     }
 }
 
-/// A table that counts the hashes of a list, and has capacity for as many more values as the list can take without memory. Fails only if
-/// memory is refused.
+/// A table that counts the hashes of the values of a list, and gives the values new labels. The table has capacity for as many more values
+/// as the list can take without memory. Fails only if memory is refused.
 fn counted(alloc: Global, list: &SlotList<Value>) -> Result<HashCounts, AllocError>
     ensures counts { IfOk result (λ t. Counts t list.now.items) }
     ensures room { IfOk result (λ t. list.now.spare ≤ room_of t.counts) }

@@ -16,14 +16,14 @@ pub(crate) struct Counted {
     pub label: u64,
 }
 
-/// For each hash that some value of a list has: how many values of the list have it, and a label.
+/// For each hash that some value of a list has: how many values of the list have it, and the label that was given last for it.
 #[derive(Drop)]
 pub(crate) struct HashCounts {
     counts: IndexMap<u64, Counted>,
 }
 
 impl HashCounts {
-    /// No values, and no capacity. Takes no memory.
+    /// A table that counts no values, and has no capacity. Takes no memory.
     pub fn new(alloc: Global) -> Self
         ensures { (h : ℕ) → count_in result h ≡ 0 }
     {
@@ -32,7 +32,7 @@ impl HashCounts {
         }
     }
 
-    /// No values, with capacity for `capacity` values. Fails only if memory is refused.
+    /// A table that counts no values, with capacity for `capacity` values. Fails only if memory is refused.
     pub fn with_capacity(alloc: Global, capacity: usize) -> Result<Self, AllocError>
         ensures none { IfOk result (λ t. (h : ℕ) → count_in t h ≡ 0) }
         ensures spare { IfOk result (λ t. capacity ≤ spare t.counts) }
@@ -59,7 +59,7 @@ impl HashCounts {
         }
     }
 
-    /// Reserves capacity for more values. Fails only if memory is refused.
+    /// Reserves capacity for `additional` more values. Fails only if memory is refused, and then the counts stay and no capacity is lost.
     pub fn reserve(&mut self, additional: usize) -> Result<(), AllocError>
         ensures counts { (h : ℕ) → count_in self.new h ≡ count_in self.old h }
         ensures spare { spare self.old.counts ≤ spare self.new.counts }
@@ -68,7 +68,8 @@ impl HashCounts {
         self.counts.reserve(additional)
     }
 
-    /// Counts one more value with a hash, and makes the label of this value the label of the hash. Takes no memory.
+    /// Counts one more value with a hash, and makes the label of this value the label of the hash. There has to be capacity for the value.
+    /// Takes no memory.
     pub fn add(&mut self, hash: u64, label: u64)
         requires room { 0 < spare self.old.counts }
         requires fits { count_in self.old hash + 1 < 2 ^ 64 }
@@ -95,7 +96,7 @@ impl HashCounts {
         }
     }
 
-    /// Takes one value with a hash out of the count. Takes no memory.
+    /// Takes one value with a hash out of the count, if any value has the hash. Takes no memory.
     pub fn take(&mut self, hash: u64)
         ensures counts { (h : ℕ) → count_in self.new h ≡ count_in self.old h - (if nat_eq hash h then 1 else 0) }
         ensures spare { spare self.old.counts ≤ spare self.new.counts }

@@ -12,12 +12,13 @@ use std::alloc::{AllocError, Global};
 use std::marker::Model;
 use std::{mem, slice};
 
-/// If a list is looked up by value and has more values than this, its hashes are counted.
+/// `reserve` counts the hashes of a list that is looked up by value, if the list has more values than this, or would have them after the
+/// inserts for which `reserve` makes capacity.
 const SHORT: usize = 64;
 
-/// A list has a table of its hashes if it is long and is looked up by value. The list is then in a `Box` together with its table, so that a
-/// list without a table needs no bytes for a table. Most lists are of single features: their one value is in the list itself, and takes no
-/// block of memory.
+/// The layout of a list in memory. If the hashes of a list are counted, the list is in a `Box` together with the table of its hashes, so
+/// that a list without a table needs no bytes for a table. Most lists are of single features: their one value is in the list itself, and
+/// takes no block of memory.
 #[derive(Drop)]
 enum Layout {
     Empty,
@@ -26,8 +27,8 @@ enum Layout {
     Counted(Box<CountedList>),
 }
 
-/// A list of values. If the list is long and is looked up by value, it also keeps how many of its values have each hash. Contracts see the
-/// values, and the capacity for more values.
+/// A list of values. If the list is long and is looked up by value, `reserve` makes a table that counts how many of the values have each
+/// hash. Contracts see the values, and the capacity for more values.
 #[derive(Drop)]
 pub struct ValueList {
     layout: Layout,
@@ -99,8 +100,9 @@ impl ValueList {
         }
     }
 
-    /// The index of the first value that is the same as `value`. If the hashes are counted, there are two cases in which the list is not
-    /// gone through: no value of the list has the hash of `value`, or only one value has this hash, and is found by its label.
+    /// The index of the first value that is the same as `value`; `None` if there is none. If the hashes are counted, there are two cases in
+    /// which the list is not gone through: no value of the list has the hash of `value`; or only one value of the list has this hash, and
+    /// `value` is found by the label of the hash.
     pub fn position(&self, value: &Value) -> Option<usize>
         ensures { result ≡ position (same_value value.now) self.now.items }
     {
@@ -113,8 +115,8 @@ impl ValueList {
         }
     }
 
-    /// Whether a value is there. If the hashes are counted, there are two cases in which the list is not gone through: no value of the list
-    /// has the hash of the value, or the value is found by the label of its hash.
+    /// Whether a value of the list is the same as `value`. If the hashes are counted, there are two cases in which the list is not gone
+    /// through: no value of the list has the hash of `value`, or `value` is found by the label of this hash.
     pub fn has(&self, value: &Value) -> bool
         ensures { result ≡ list_any (same_value value.now) self.now.items }
     {
@@ -126,8 +128,8 @@ impl ValueList {
         }
     }
 
-    /// Reserves capacity for more values. `is_asked` says whether the list is looked up by value. Fails only if memory is refused, and then
-    /// the values stay and no capacity is lost.
+    /// Reserves capacity for `additional` more values. `is_asked` says whether the list is looked up by value; if so, the hashes of a long
+    /// list are counted (`SHORT`). Fails only if memory is refused, and then the values stay and no capacity is lost.
     pub fn reserve(
         &mut self,
         alloc: Global,
@@ -169,7 +171,8 @@ impl ValueList {
         Ok(())
     }
 
-    /// Inserts a value, for which there is capacity, before the value at an index or at the end. Takes no memory.
+    /// Inserts a value before the value at `index`, or at the end if `index` is the length of the list. There has to be capacity for the
+    /// value. Takes no memory.
     pub fn insert(&mut self, index: usize, value: Value)
         requires room { 0 < self.old.spare }
         requires in_range { index ≤ length self.old.items }
@@ -217,7 +220,7 @@ impl ValueList {
         }
     }
 
-    /// Replaces the values by the values of a `Vec`. The hashes of the new values are not counted before a call of `reserve` with
+    /// Replaces the values by the values of a `Vec`. The hashes of the new values are not counted until `reserve` is called with
     /// `is_asked`. Takes no memory.
     pub fn replace(&mut self, values: Vec<Value>)
         ensures items { self.new.items ≡ values.items }
@@ -267,7 +270,8 @@ fn layout_of(mut values: Vec<Value>) -> Layout
     }
 }
 
-/// Replaces the values of a list by one value; the list keeps its memory only if it has capacity for at least two more values.
+/// The layout of a list after its values are replaced by one value. The list keeps its memory only if it had capacity for at least two more
+/// values before.
 fn layout_of_one(alloc: Global, mut list: SlotList<Value>, value: Value) -> Layout
     ensures items { (places_of result).items ≡ value ∷ [] }
     ensures spare { list.spare ≤ (places_of result).spare + 1 }
@@ -292,8 +296,8 @@ fn with_places(alloc: Global, places: usize) -> Result<SlotList<Value>, AllocErr
     Ok(list)
 }
 
-/// Moves a value into a list with capacity for `additional` more values. Fails only if memory is refused, and then the value stays where it
-/// is.
+/// Moves a value into a new list that has capacity for `additional` more values, and leaves null in the place of the value. Fails only if
+/// memory is refused, and then the value stays where it is.
 fn in_block(
     alloc: Global,
     value: &mut Value,

@@ -1,5 +1,5 @@
 -- Texts cut at the first byte that passes a test.
-use Rattle.std.proofs.Common.{◌++◌, drop, refl, ◌≡◌, ◌+◌, ◌<◌, ◌∙◌, Bool, true, false, Bor, List, [], ◌∷◌, MatchOption, Option, ℕ, ap, arith, length, length-drop, sym}
+use Rattle.std.proofs.Common.{◌++◌, drop, refl, ◌≡◌, ◌+◌, ◌<◌, ◌∙◌, Bool, true, false, List, [], ◌∷◌, ℕ, ap, arith, length, sym}
 use Rattle.std.proofs.Math.Seq.{drop-append-add, take-append_seam}
 use Rattle.std.specs.Prelude.{◌||◌}
 use Rattle.std.specs.List.{All, after_first, before_first, list_any, position_or_len, slice_split}
@@ -20,15 +20,9 @@ one_passes p xs below = list_any_at p xs (position_or_len p xs) 0 below (passes_
 
 ---------------------------------------------------------------- what a text is cut into
 
-abbrev pub TellsFirst : (ℕ → Bool) → List ℕ → Option (Bor (List ℕ) × Bor (List ℕ)) → Type 0
-TellsFirst p t r = MatchOption r (position_or_len p t ≡ length t) (λ x. (x.0.now ≡ before_first p t) × (x.1.now ≡ after_first p t) × (position_or_len p t < length t))
-
 -- a text with such a byte is split in two
 pub split_in_two : (p : ℕ → Bool) (t a b : List ℕ) → a ≡ before_first p t → b ≡ after_first p t → position_or_len p t < length t → slice_split p t ≡ a ∷ slice_split p b
 split_in_two p t a b before after below = slice_split_first p t 0 below ∙ ap (λ w. w ∷ slice_split p (after_first p t)) (sym before) ∙ ap (λ w. a ∷ slice_split p w) (sym after)
-
-pub shorter_behind : (p : ℕ → Bool) (t b : List ℕ) → b ≡ after_first p t → position_or_len p t < length t → length b < length t
-shorter_behind p t b after below = let e = length-drop (position_or_len p t + 1) t in let f = ap length after in omega (arith, e, f, below)
 
 -- a text without a byte that passes is not split
 pub split_whole : (p : ℕ → Bool) (t : List ℕ) → position_or_len p t ≡ length t → slice_split p t ≡ t ∷ []

@@ -32,13 +32,6 @@ small_value w short h =
 pub natural_number-short : (w : List ℕ) → length w ≤ 7 → natural_number w ≡ index_of w
 natural_number-short w short = both_tests (is_decimal w) (nat_le (length w) 7) (nat_lt (digits_value 10 w) (2 ^ 32)) (digits_value 10 w) (grind (arith, nat_tests)) (small_value w short)
 
-none_long : (d : Bool) (w : List ℕ) → 7 < length w → cond (d && nat_le (length w) 7) (Some (digits_value 10 w)) None ≡ None
-none_long true w long = let e : nat_le (length w) 7 ≡ false = grind (arith, nat_tests) in rw e refl
-none_long false w long = refl
-
-pub index_of-long : (w : List ℕ) → 7 < length w → index_of w ≡ None
-index_of-long w long = none_long (is_decimal w) w long
-
 ---------------------------------------------------------------- a step
 
 neither : (x y p q : Bool) → (x ≡ true → p ≡ false) → (y ≡ true → q ≡ false) → x || y ≡ true → p && q ≡ false

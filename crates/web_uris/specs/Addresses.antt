@@ -8,7 +8,7 @@ use Rattle.web_uris.specs.Paths.{parse}
 abbrev pub has_mark : List ℕ → Bool
 has_mark t = list_any is_mark t
 
--- the text before the first `#`; and `fragment_part`, the text after the first `#`
+-- the text before the first `#`, or the whole text without a `#`; and `fragment_part`, the text after the first `#`, empty without a `#`
 abbrev pub uri_part : List ℕ → List ℕ
 uri_part t = before_first is_mark t
 

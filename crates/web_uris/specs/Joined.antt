@@ -12,12 +12,13 @@ abbrev pub if_parsed : Parsed Parts → Option Parts
 if_parsed (Ok u) = Some u
 if_parsed (Err e) = None
 
--- the parts of the URL that a reference gives relative to the base; none if the base or the reference can't be read
+-- the parts of the URL that a reference gives relative to a base; none if the base can't be read as a URL, or if the reference can't be
+-- read relative to it
 abbrev pub reference_parts : List ℕ → List ℕ → Option Parts
 reference_parts base reference = option_and_then (λ b. if_parsed (parse_url (Some b) reference)) (if_parsed (parse_url None base))
 
 -- the parts of the URL that a reference gives by itself; if the reference can't be read by itself, the parts that it gives relative to the
--- base
+-- base, if it gives any
 abbrev pub parts_of : List ℕ → List ℕ → Option Parts
 parts_of base reference = option_or (if_parsed (parse_url None reference)) (reference_parts base reference)
 
@@ -28,11 +29,12 @@ is_web u = bytes_eq u.scheme (codes "http") || bytes_eq u.scheme (codes "https")
 abbrev pub is_mark : ℕ → Bool
 is_mark c = c == 35
 
--- the text of a URL, if its scheme is http or https and it has no fragment
+-- the text of a URL whose scheme is http or https, and that has no fragment; none for any other URL
 abbrev pub web_text : Parts → Option (List ℕ)
 web_text u = if is_web u then (if list_any is_mark (serialize u) then None else Some (serialize u)) else None
 
--- the text of the URL that a text gives by itself, without a base, if the URL's scheme is http or https and the URL has no fragment
+-- the URL that a text gives without a base, written as a text; none if the text gives no URL, or if the URL has a fragment, or a scheme
+-- other than http and https
 abbrev pub own_text : List ℕ → Option (List ℕ)
 own_text u = option_and_then web_text (if_parsed (parse_url None u))
 
@@ -41,23 +43,23 @@ own_text u = option_and_then web_text (if_parsed (parse_url None u))
 abbrev pub IsWebUri : List ℕ → Type 0
 IsWebUri u = own_text u ≡ Some u
 
--- the URI that a reference gives when it is joined with a base. None if the reference gives no URI, or if the URI that it gives has a
--- fragment, or a scheme other than http and https
+-- the URI that a reference gives by itself, or, if it gives none by itself, joined with a base. None if the reference gives no URI, or if
+-- the URI that it gives has a fragment, or a scheme other than http and https
 unfoldable pub joined_uri : List ℕ → List ℕ → Option (List ℕ)
 joined_uri base reference = option_and_then web_text (parts_of base reference)
 
--- a URI is the result of joining some reference with some base
+-- u is a result of joining: the URI that some reference gives with some base
 pub record IsJoined (u : List ℕ) : Type 0 where
   pub base : List ℕ
   pub reference : List ℕ
   pub gives : joined_uri base reference ≡ Some u
 
--- the result is the text, `Bad` if there is no text, or `Memory` in either case
+-- the result is the text; or it is `Bad`, and there is no text; or it is `Memory`, whether there is a text or not
 abbrev pub GivesText : Result (String Global) UriFault → Option (List ℕ) → Type 0
 GivesText (Ok t) text = text ≡ Some (string_bytes t)
 GivesText (Err Bad) text = text ≡ None
 GivesText (Err Memory) text = Unit {0}
 
--- the result of joining is the URI, `Bad` if there is no URI, or `Memory` in either case
+-- the result of joining is the URI; or it is `Bad`, and there is no URI; or it is `Memory`, whether there is a URI or not
 abbrev pub Joins : Result (String Global) UriFault → List ℕ → List ℕ → Type 0
 Joins result base reference = GivesText result (joined_uri base reference)

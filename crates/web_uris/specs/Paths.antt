@@ -1,5 +1,5 @@
--- Fragments as texts: `/`, the root's segment, and a step `/@NAME` or `/@NAME.INDEX` for each part on the way (EMF: the default fragment
--- paths of Resource.getURIFragment).
+-- Fragments as texts: `/`, the root's segment, and a step `/@NAME` or `/@NAME.INDEX` for each object below the root, down to the addressed
+-- object (EMF: the default fragment paths of Resource.getURIFragment).
 use Rattle.std.specs.Prelude.{◌≡◌, ◌<◌, ◌⊎◌, IfSome, ℕ, ◌&&◌, ◌==◌, ◌++◌, Bool, true, false, List, [], ◌∷◌, flat_map, length, nat_eq, nat_le, Option, Some, None, option_and_then, option_map, decimal, if◌then◌else◌}
 use Rattle.std.specs.List.{slice_split}
 use Rattle.std.specs.Str.{bytes_eq}
@@ -45,12 +45,12 @@ is_dot c = c == 46
 abbrev pub index_of : List ℕ → Option ℕ
 index_of w = if is_decimal w && nat_le (length w) 7 then Some (digits_value 10 w) else None
 
--- the index of the root that a segment names: 0 for an empty segment, none for a segment that is no index
+-- the index of the root that a segment names: 0 for an empty segment, none for a segment that is neither empty nor an index
 abbrev pub root_of : List ℕ → Option ℕ
 root_of [] = Some 0
 root_of (c ∷ cs) = index_of (c ∷ cs)
 
--- a step from the parts that dots separate: a name, or a name and an index
+-- the step whose text after `@` has these parts between its dots: a name, or a name and an index; none for any other parts
 abbrev pub step_of_parts : List (List ℕ) → Option Step
 step_of_parts (name ∷ []) = if is_name name then Some (new_step name None) else None
 step_of_parts (name ∷ digits ∷ []) = if is_name name then option_map (λ i. new_step name (Some i)) (index_of digits) else None
@@ -97,7 +97,7 @@ same_path p q = nat_eq p.root q.root && same_steps p.steps q.steps
 
 ---------------------------------------------------------------- what can be written
 
--- a step's name has the form of a name (`is_name`); if the step has an index, the index has at most seven digits
+-- the step s can be written: its name has the form of a name (`is_name`), and its index, if it has one, has at most seven digits
 abbrev pub IsWritten : Step → Type 0
 IsWritten s = (is_name s.name ≡ true) × IfSome s.index (λ i. i < 10000000)
 

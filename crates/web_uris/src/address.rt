@@ -1,4 +1,4 @@
-//! A URI, `#`, and a fragment.
+//! Addresses: a URI, `#`, and a fragment.
 ghost use Rattle.std.specs.Prelude.{◌≡◌, IfOk, MatchOption, false, string_bytes, true};
 ghost use Rattle.web_uris.specs.Addresses.{address_text, fragment_part, has_mark as has_a_mark, uri_part};
 
@@ -19,7 +19,7 @@ pub fn split_address(text: &str) -> Option<(&str, &str)>
     text.split_once('#')
 }
 
-/// A URI, `#`, and a fragment. Fails only if memory is refused.
+/// The address of a URI and a fragment: the URI, `#`, and the fragment. Fails only if memory is refused.
 pub fn address_of(alloc: Global, uri: &str, fragment: &str) -> Result<String, AllocError>
     ensures { IfOk result (λ t. string_bytes t ≡ address_text uri.now fragment.now) }
 {

@@ -9,8 +9,8 @@ use crate::step::{root_of, step_of};
 use mm_types::Seq;
 use std::alloc::{AllocError, Global};
 
-/// The steps that `text` writes, without the slash before the first step; `None` if the text is no sequence of steps. Without a text, the
-/// list of steps is empty.
+/// The steps that `text` writes; `None` if `text` writes no steps. `text` begins after the slash of the first step. If there is no text,
+/// there are no steps. Fails only if memory is refused.
 fn steps_of(alloc: Global, text: Option<&str>) -> Result<Option<Seq<Step>>, AllocError>
     ensures { IfOk result (λ steps. steps ≡ steps_meant (segments (option_copied text.entry))) }
 {
@@ -27,7 +27,8 @@ fn steps_of(alloc: Global, text: Option<&str>) -> Result<Option<Seq<Step>>, Allo
     Ok(Some(steps))
 }
 
-/// The path of the fragment that is a slash followed by `text`; `None` if the slash and the text are no fragment.
+/// The path of the fragment that is a slash followed by `text`; `None` if the slash and `text` are no fragment. Fails only if memory is
+/// refused.
 fn path_behind(alloc: Global, text: &str) -> Result<Option<Path>, AllocError>
     ensures { IfOk result (λ path. path ≡ path_of_segments ([] ∷ slice_split is_slash text.now)) }
 {

@@ -8,7 +8,7 @@ use crate::address::has_mark;
 use std::alloc::Global;
 use url::{ParseError, ParseResult, Url};
 
-/// Why a reference and a URI give no URI.
+/// Why a reference and a base give no URI.
 #[derive(Clone, Copy, Debug, PartialEq, Eq)]
 pub enum UriFault {
     /// The reference gives no URI, neither by itself nor joined with the base. Or the URI that it gives has a fragment, or a scheme other
@@ -18,7 +18,7 @@ pub enum UriFault {
     Memory,
 }
 
-/// The URL that a text gives without a base; `None` if the text is no URL.
+/// The URL that a text gives without a base; `None` if the text is no URL. The only error is `Memory`.
 fn own_url(alloc: Global, text: &str) -> Result<Option<Url>, UriFault>
     ensures { MatchResult result (λ u. u ≡ if_parsed (parse_url None text.now)) (λ e. e ≡ Memory) }
 {
@@ -29,7 +29,7 @@ fn own_url(alloc: Global, text: &str) -> Result<Option<Url>, UriFault>
     }
 }
 
-/// The URL that a reference gives relative to a base URL; `None` if it gives no URL.
+/// The URL that a reference gives relative to a base URL; `None` if the reference gives none. The only error is `Memory`.
 fn based_url(base: &Url, reference: &str) -> Result<Option<Url>, UriFault>
     ensures { MatchResult result (λ u. u ≡ if_parsed (parse_url (Some base.now) reference.now)) (λ e. e ≡ Memory) }
 {
@@ -75,7 +75,8 @@ fn text_of(alloc: Global, url: &Url) -> Result<String, UriFault>
     String::from_str(alloc, url.as_str()).map_err(|_| UriFault::Memory)
 }
 
-/// The URI of a reference, as the crate `url` writes it: the reference itself if it is a URI, otherwise the reference joined with a base.
+/// The URI that a reference gives, as the crate `url` writes this URI: the reference itself if it is a URI, otherwise the reference joined
+/// with a base.
 ///
 /// `Bad` if neither the reference nor the joined reference is a URI, if the URI's scheme is neither http nor https, or if the URI has a
 /// `#`. `Memory` if memory is refused, or the URI would be longer than URIs can be.

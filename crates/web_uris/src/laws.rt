@@ -7,18 +7,19 @@ ghost use Rattle.web_uris.specs.Joined.{IsWebUri, joined_uri, web_text};
 ghost use Rattle.web_uris.specs.Paths.{Writes, parse};
 ghost use Rattle.web_uris.specs.declared.path.Path.{Path};
 
-/// A URI of http or https without a fragment is normalised if it is written as the crate `url` writes it: joining the URI with any base
-/// gives the same URI.
+/// Joining a normalised URI with any base gives the URI itself. A URI is normalised if its scheme is http or https, it has no fragment, and
+/// it is written as the crate `url` writes it (`IsWebUri`).
 pub fn web_uris_join_to_themselves()
     ensures { (base uri : List ℕ) → IsWebUri uri → joined_uri base uri ≡ Some uri }
 {}
 
-/// The text of a valid URL of http or https without a fragment is normalised: the crate `url` reads the text, and writes the same text.
+/// The text of a valid URL of http or https without a fragment is normalised: the crate `url` reads the text as a URL, and writes this URL
+/// as the same text.
 pub fn urls_of_the_web_are_web_uris()
     ensures { (url : Parts) → IsValid url → kind_of url ≡ SpecialNotFile → web_text url ≡ Some (serialize url) → IsWebUri (serialize url) }
 {}
 
-/// A fragment is read as the grammar says: reading finds the path for which a text was written, and no other path.
+/// A fragment is read as the grammar says: reading a text gives a path exactly if the text is a text of this path (`Writes`).
 pub fn fragments_are_read_as_written()
     ensures finds { (text : List ℕ) (path : Path) → Writes text path → parse text ≡ Some path }
     ensures only { (text : List ℕ) (path : Path) → parse text ≡ Some path → Writes text path }

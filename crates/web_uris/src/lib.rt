@@ -1,4 +1,4 @@
-//! The texts that address objects: the URIs of resources, references that are joined with them, and the fragments after them.
+//! The texts that address objects: the URIs of resources, the references that are joined with these URIs, and the fragments after the URIs.
 //!
 //! `specs/Joined.antt` says what joining gives, `specs/Paths.antt` is the grammar of fragments, and `specs/Addresses.antt` says how a URI
 //! and a fragment make one text.

@@ -6,16 +6,16 @@ use itoa::Buffer;
 use mm_types::{Seq, Text};
 use std::alloc::{AllocError, Global};
 
-/// One step from an object to a part of it.
+/// One step from an object to an object that it contains.
 #[derive(Debug, Drop)]
 pub struct Step {
-    /// The name of the feature that holds the part.
+    /// The name of the feature that has the contained object as a value.
     pub name: Text,
-    /// The part's position, if the feature is many-valued.
+    /// The index of the contained object among the values of the feature, if the feature is many-valued; `None` if it is single.
     pub index: Option<u32>,
 }
 
-/// The way from a resource to an object in it: a root, by its position, and then steps.
+/// The way from a resource to an object in it: a root, by its index among the roots, and then steps.
 #[derive(Debug, Drop)]
 pub struct Path {
     pub root: u32,
@@ -59,8 +59,8 @@ fn push_steps(text: &mut String, steps: &[Step]) -> Result<(), AllocError>
 }
 
 impl Path {
-    /// The text of the path. The root's segment is empty if `is_root_left_out` is true, and is the root's position otherwise. Fails only if
-    /// memory is refused.
+    /// The text of the path. The root's segment is empty if `is_root_left_out` is true, and is the index of the root otherwise. Fails only
+    /// if memory is refused.
     pub fn text(&self, alloc: Global, is_root_left_out: bool) -> Result<String, AllocError>
         ensures { IfOk result (λ t. string_bytes t ≡ path_text is_root_left_out self.now) }
     {

@@ -1,4 +1,4 @@
-//! One step of a fragment is read.
+//! The root's segment and the steps of a fragment are read one by one.
 ghost use Rattle.std.specs.Prelude.{◌≡◌, ◌∷◌, [], IfOk, None, Some, option_map, if◌then◌else◌};
 ghost use Rattle.std.specs.List.{slice_split};
 ghost use Rattle.mm_types.specs.Names.{is_name as is_a_name};
@@ -23,7 +23,7 @@ fn index_of(digits: &str) -> Option<u32>
     natural_of(digits)
 }
 
-/// The position of the root that the first segment names: 0 if the segment is empty, `None` if it is neither empty nor an index. Takes no
+/// The index of the root that the root's segment names: 0 if the segment is empty, `None` if it is neither empty nor an index. Takes no
 /// memory.
 pub(crate) fn root_of(segment: &str) -> Option<u32>
     ensures { result ≡ root_meant segment.now }
@@ -34,7 +34,7 @@ pub(crate) fn root_of(segment: &str) -> Option<u32>
     index_of(segment)
 }
 
-/// A name and an index, if the name is formed as names must be.
+/// The name of a step, and its index if it has one; `None` if the name does not have the form of a name (`is_name`).
 fn named(name: &str, index: Option<u32>) -> Option<(&str, Option<u32>)>
     ensures { option_map (λ s. new_step s.0.now s.1) result ≡ (if is_a_name name.now then Some (new_step name.now index) else None) }
 {
@@ -53,8 +53,8 @@ fn numbered<'a>(name: &'a str, digits: &str) -> Option<(&'a str, Option<u32>)>
     }
 }
 
-/// The name and the index of a step, from the text after the step's `@`; `None` if the text is neither a name, nor a name, a dot and an
-/// index.
+/// The name of a step, and its index if it has one, from the text after the step's `@`; `None` if the text is neither a name, nor a name, a
+/// dot and an index.
 fn parts_of(text: &str) -> Option<(&str, Option<u32>)>
     ensures { option_map (λ s. new_step s.0.now s.1) result ≡ step_of_parts (slice_split is_dot text.now) }
 {
@@ -73,7 +73,7 @@ fn borrowed_step(segment: &str) -> Option<(&str, Option<u32>)>
     }
 }
 
-/// The step that a segment writes, if it writes one. Fails only if memory is refused.
+/// The step that a segment writes; `None` if the segment writes no step. Fails only if memory is refused.
 pub(crate) fn step_of(alloc: Global, segment: &str) -> Result<Option<Step>, AllocError>
     ensures { IfOk result (λ s. s ≡ step_meant segment.now) }
 {

@@ -14,11 +14,12 @@ use notice_chain::Target;
 use std::collections::VecDeque;
 
 impl<A: Adapter> AdapterList<A> {
-    /// Attaches an adapter last in attach order, and reserves capacity for its last notification (EMF: `eAdapters().add`).
+    /// Attaches an adapter to the node `target`, last in attach order, and reserves capacity for its last notification from this target
+    /// (EMF: `eAdapters().add`). `deep` says whether the target is deep.
     ///
-    /// Refused, in this order, with Limit if there are 100,000 targets, AdapterTaken if an adapter with this number is attached already and
-    /// AdapterFull if the adapter can't count its last notification; or with Memory if memory is refused. A refused adapter is given back
-    /// with its notifications unchanged, and the list is unchanged too.
+    /// Refused with the first of these that applies: Limit if all adapters together have 100,000 targets already; AdapterTaken if an
+    /// adapter with this number is attached already; AdapterFull if the adapter can't count its last notification; Memory if memory is
+    /// refused. If the call is refused, it notifies no adapter, leaves the list as it was, and gives `adapter` back.
     pub fn attach(
         &mut self,
         no: AdapterNo,

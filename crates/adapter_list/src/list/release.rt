@@ -1,4 +1,4 @@
-//! Taking targets from adapters, and closing.
+//! Taking targets from adapters, and closing the list.
 ghost use Rattle.std.specs.Prelude.{◌≡◌, ◌≤◌, ◌++◌, ◌∷◌, [], IfSome, None, is_some, length, map, vec_len, vec_capacity};
 ghost use Rattle.notice_chain.specs.Listed.{HaveTargets, is_target};
 ghost use Rattle.notice_chain.specs.View.{hear_all};
@@ -23,8 +23,9 @@ use std::mem;
 
 impl<A: Adapter> AdapterList<A> {
     /// Takes one target from an adapter. The adapter loses the target, and gets its last notification from that target. Returns the
-    /// notification, and the adapter if it has no target left. If the node is no target of the adapter, the result is `None`, and nothing
-    /// changes, not even the capacity of the adapter. Takes no memory (EMF: `eAdapters().remove`).
+    /// notification, and the adapter if it has no target left. If no adapter has the number `no`, or the node `target` is no target of the
+    /// adapter, the result is `None`, and nothing changes, not even the capacity of an adapter. Takes no memory (EMF:
+    /// `eAdapters().remove`).
     pub fn detach(&mut self, no: AdapterNo, target: Node) -> Option<Detached<A>>
         ensures some { is_some result ≡ is_target no target self.old.0 }
         ensures none { result ≡ None → self.new ≡ self.old }
@@ -43,9 +44,9 @@ impl<A: Adapter> AdapterList<A> {
     }
 
     /// Takes targets from adapters, one after another. Each element of `release` names an adapter and a node. If the node is a target of
-    /// the adapter, the adapter loses this target, and gets its last notification from the node. Otherwise the element is skipped. Then the
-    /// adapters whose last target was taken away are given back, in attach order. Returns which adapter was notified of what, and the
-    /// adapters that are given back. Takes no memory.
+    /// the adapter, the adapter loses this target, and gets its last notification from the node. Otherwise the element is skipped. After
+    /// the last element the adapters that have no target left are given back, in attach order. Returns which adapter was notified of what,
+    /// and the adapters that are given back. Takes no memory.
     pub fn release(
         &mut self,
         release: Release<A>,
@@ -82,8 +83,8 @@ impl<A: Adapter> AdapterList<A> {
         }
     }
 
-    /// Takes the parts out of the list, with the capacity for giving back all of its adapters. The list is empty until the parts are put
-    /// back.
+    /// Takes the list apart. Returns its parts, and an empty `Vec` with capacity for all of its adapters. `self` is then a list without
+    /// adapters, until the caller puts back the list that `Going::into_list` makes of the parts.
     fn take_apart(&mut self) -> (Going<A>, Vec<(AdapterNo, A)>)
         ensures now { result.0 ≡ self.old.0 }
         ensures some { HaveTargets self.old.0 }
@@ -94,7 +95,7 @@ impl<A: Adapter> AdapterList<A> {
     }
 
     /// Gives every adapter back, in attach order. Each adapter gets its last notification from each of its targets, in the order in which
-    /// it got these targets, and is gone before the next adapter is notified. Takes no memory.
+    /// the adapter got the targets, and is no longer attached when the next adapter is notified. Takes no memory.
     pub fn close(self) -> Vec<(AdapterNo, A)>
         ensures { views_of A.heard result.items ≡ all_released self.0 }
     {
@@ -120,8 +121,8 @@ impl<A: Adapter> AdapterList<A> {
     }
 }
 
-/// Notifies an adapter for the last time from each of its targets. The index in these notifications is 0, since the adapters that were
-/// attached before this one are gone.
+/// Gives an adapter its last notification from each of its targets. The position in these notifications is the index of the adapter among
+/// the adapters that have the target. It is 0, since all adapters that come earlier in attach order are no longer attached.
 fn tell_all_last<A: Adapter>(adapter: &mut A, no: AdapterNo, targets: &VecDeque<Target>)
     requires reserve { length targets.now.items ≤ A.places adapter.old }
     ensures { A.heard adapter.new ≡ hear_all (A.heard adapter.old) (map (λ t. removing_notice no t.node 0) targets.now.items) }

@@ -10,9 +10,10 @@ use adapters::{Adapter, NoRoom};
 use notice_chain::Notice;
 
 impl<A: Adapter> AdapterList<A> {
-    /// Makes sure that each adapter has capacity for the copies that it gets, and for a last notification from each of its targets. Each
-    /// adapter that gets copies is asked once, in attach order, and the first refusal is returned. If memory is refused for counting the
-    /// copies, `Memory` is returned, and no adapter is asked. No adapter loses capacity.
+    /// Makes sure that each adapter has capacity for the copies that it gets, and for a last notification from each of its targets. The
+    /// adapters that get copies reserve capacity one after another, in attach order and each of them once, up to the first that refuses;
+    /// its refusal is returned. If memory is refused for counting the copies, `Memory` is returned before any adapter reserves. No adapter
+    /// loses capacity.
     pub(super) fn reserve_places(&mut self, copies: &[(usize, Notice)]) -> Result<(), NoRoom>
         requires within { AllByRecursion (λ c. c.0 < length self.old.1) copies.now }
         ensures grown { HasGrown self.old self.new }
@@ -38,8 +39,8 @@ impl<A: Adapter> AdapterList<A> {
         Ok(())
     }
 
-    /// Reserves what `reserve_places` reserves. The copies must be in the attach order of their adapters, with at most one copy for each
-    /// adapter. So they need not be counted, and only the adapters take memory.
+    /// Does what `reserve_places` does, for copies that are in the attach order of their adapters, with at most one copy for each adapter.
+    /// So the copies need not be counted, and only the adapters take memory.
     fn reserve_each(&mut self, copies: &[(usize, Notice)]) -> Result<(), NoRoom>
         requires within { AllByRecursion (λ c. c.0 < length self.old.1) copies.now }
         requires ascending { ascends None (ordinals copies.now) ≡ true }

@@ -1,4 +1,4 @@
-//! Which adapters get a notification, what is reserved for a chain, and its delivery.
+//! Which adapters get a notification, what is reserved for a chain, and how the chain is delivered.
 ghost use Rattle.std.specs.Prelude.{◌≡◌, ◌<◌, ◌++◌, List, length, slice_index, All, OnOk, IfOk};
 ghost use Rattle.links.specs.Holders.{HasNoCycle, above};
 ghost use Rattle.links.specs.LegalSets.{IsLegalSet};
@@ -12,16 +12,16 @@ ghost use Rattle.adapter_list.specs.Rounds.{CopiesFit, RoundFits, copies_from, r
 use super::AdapterList;
 use crate::hearers::Hearers;
 use crate::refusal::refusal;
-use crate::round::{Copies, Round};
+use crate::round::Round;
 use adapters::Adapter;
 use links::LinkStore;
-use mm_types::{AdapterNo, Refused};
+use mm_types::{AdapterNo, FewItems, Refused};
 use notice_chain::{Chain, Notice};
 use std::alloc::AllocError;
 
 impl<A: Adapter> AdapterList<A> {
-    /// The numbers of the adapters that get a notification, in attach order. The containers in `store` at the time of the call decide which
-    /// adapters these are. Fails only if memory is refused.
+    /// The numbers of the adapters that get a notification, in attach order. Which nodes are above the notifier is read from `store` at the
+    /// time of the call. Fails only if memory is refused.
     pub fn audience<L: LinkStore>(
         &self,
         store: &L,
@@ -39,15 +39,16 @@ impl<A: Adapter> AdapterList<A> {
         Ok(numbers)
     }
 
-    /// Reserves all that a chain needs: the copies of its notifications, and for each adapter capacity for its copies and for a last
-    /// notification from each of its targets. The containers in `store` at the time of the call decide which adapters get the
-    /// notifications, so this function is called before the change. Whether it succeeds or fails, no adapter is notified and no adapter
-    /// loses capacity. So a round that fitted the adapters still fits them.
+    /// Reserves all that a chain needs: makes the copies of its notifications, and reserves for each adapter capacity for its copies and
+    /// for a last notification from each of its targets. Returns the round. Which nodes are above a notifier is read from `store` at the
+    /// time of the call. So if the notifications are those of a change, this function has to be called before the change is made. Whether
+    /// the call succeeds or fails, no adapter is notified, and no adapter loses capacity. So a round that fitted the adapters before the
+    /// call still fits them.
     ///
     /// Refused with AdapterFull if an adapter can't count its notifications of the chain and a last notification from each of its targets,
-    /// or with Memory if memory is refused. The adapters reserve in attach order, and the first adapter that refuses decides the refusal,
-    /// unless memory is refused to the list itself. If the refusal is AdapterFull, each adapter before the full adapter has the capacity
-    /// that it needs.
+    /// or with Memory if memory is refused. The list first takes the memory that it needs itself; if this memory is refused, the refusal is
+    /// Memory. Then the adapters reserve in attach order, and the first adapter that refuses decides the refusal. If the refusal is
+    /// AdapterFull, each adapter that comes before the full adapter in attach order has the capacity that it needs.
     pub fn reserve_all<L: LinkStore>(&mut self, store: &L, chain: Chain) -> Result<Round, Refused>
         requires legal { IsLegalSet (L.links store.now) }
         requires no_cycle { HasNoCycle (L.links store.now) }
@@ -64,11 +65,13 @@ impl<A: Adapter> AdapterList<A> {
     }
 
     /// Reserves, for each adapter, capacity for the copies of a round that the adapter gets, and for a last notification from each of its
-    /// targets. The round must be the round of a chain, as `round` makes it. Adapters are asked in attach order. If the indexes of the
-    /// copies do not rise from each copy to the next, the copies for each adapter are counted first, which takes memory too.
+    /// targets. The round must be the round of a chain for the present adapters and targets, as `round` makes it. The adapters reserve in
+    /// attach order. If the copies are not in the attach order of their adapters, or an adapter gets several of them, the copies for each
+    /// adapter are counted first, which takes memory too.
     ///
     /// Refused with AdapterFull if an adapter can't count its copies and a last notification from each of its targets, or with Memory if
-    /// memory is refused. Unless memory is refused to the list itself, the first adapter that refuses decides the refusal.
+    /// memory is refused. If the memory for counting is refused, the refusal is Memory. Otherwise the first adapter that refuses decides
+    /// the refusal. No adapter loses capacity.
     pub fn reserve_round(&mut self, round: &Round) -> Result<(), Refused>
         requires round { (up : Above) × (chain : List Notice) × (round.now ≡ round_of up chain self.old.0) }
         ensures { (up : Above) (chain : List Notice) → round.now ≡ round_of up chain self.old.0 → IsReserved up chain self.old self.new (reserved_round round.now result) }
@@ -80,11 +83,12 @@ impl<A: Adapter> AdapterList<A> {
         }
     }
 
-    /// Delivers a round that fits the adapters: notifies the adapter of each copy, in the order of the copies. Returns which adapter was
-    /// notified of what: the notifications in the order of the chain, each with the adapters that got it, in attach order. Takes no memory.
+    /// Delivers a round that fits the adapters: gives each copy to its adapter, in the order of the copies. Returns which adapter was
+    /// notified of what: for each notification, in the order of the chain, the adapters that got it, in attach order. Takes no memory.
     ///
-    /// A round fits the adapters for which it was reserved. If an adapter is given back, the indexes of the adapters after it change, and
-    /// the round need not fit any more. If an adapter is notified or gets one more target, it may lack capacity for the round.
+    /// A round fits the adapters for which it was reserved. If an adapter is given back, the indexes of the adapters after it in attach
+    /// order change, and the round may no longer fit. If an adapter is notified or gets one more target after the reservation, the adapter
+    /// may lack capacity for the round.
     #[inline(always)]
     pub fn deliver(&mut self, round: Round) -> Vec<(AdapterNo, Notice)>
         requires reserved { RoundFits self.old.0 self.old.1 round }
@@ -93,14 +97,14 @@ impl<A: Adapter> AdapterList<A> {
         ensures by_number { result.items ≡ told_by round.copies self.old.0 }
     {
         let (copies, told) = round.into_parts();
-        match copies {
-            Copies::One((ordinal, notice)) => self.tell_at(ordinal, notice),
-            Copies::Many(list) => self.tell_each(list),
+        match copies.into_items() {
+            FewItems::One((ordinal, notice)) => self.tell_at(ordinal, notice),
+            FewItems::Many(list) => self.tell_each(list),
         }
         told
     }
 
-    /// Notifies the adapter of each copy, in the order of the copies.
+    /// Gives each copy to its adapter, in the order of the copies.
     fn tell_each(&mut self, copies: Vec<(usize, Notice)>)
         requires fits { CopiesFit self.old.0 self.old.1 copies.items }
         ensures heard { self.new.0 ≡ adapters_after_copies copies.items self.old.0 }
@@ -110,7 +114,7 @@ impl<A: Adapter> AdapterList<A> {
         }
     }
 
-    /// Notifies the adapter at `ordinal`.
+    /// Notifies the adapter at index `ordinal`.
     fn tell_at(&mut self, ordinal: usize, notice: Notice)
         requires within { ordinal < length self.old.1 }
         requires spare { targets_at self.old.0 ordinal < slice_index self.old.1 ordinal }
@@ -122,9 +126,9 @@ impl<A: Adapter> AdapterList<A> {
     }
 
     /// The round of a chain: a copy of each notification for each adapter that gets it. If successive notifications have the same notifier,
-    /// the adapters of this notifier are found once. If `hearers` has the adapters of the first notifier already, they are not looked for
-    /// again. Afterwards `hearers` has the adapters of the last notifier; an empty chain does not change `hearers`. Fails only if memory is
-    /// refused.
+    /// the adapters that get them are looked for once. If `hearers` has the adapters of the first notifier already, those adapters are not
+    /// looked for again. After a call that succeeds, `hearers` has the adapters of the last notifier; an empty chain does not change
+    /// `hearers`. Fails only if memory is refused.
     #[inline(always)]
     pub fn round<L: LinkStore>(
         &self,
@@ -139,17 +143,18 @@ impl<A: Adapter> AdapterList<A> {
         ensures round { IfOk result (λ r. r ≡ round_of (above (L.links store.now)) chain self.now.0) }
     {
         let mut round = Round::new(self.alloc);
-        let (first, rest) = chain.into_parts();
-        if let Some(notice) = first {
-            self.add_notice(store, notice, hearers, &mut round)?;
-        }
-        for notice in rest {
-            self.add_notice(store, notice, hearers, &mut round)?;
+        match chain.into_items() {
+            FewItems::One(notice) => self.add_notice(store, notice, hearers, &mut round)?,
+            FewItems::Many(notices) => {
+                for notice in notices {
+                    self.add_notice(store, notice, hearers, &mut round)?;
+                }
+            }
         }
         Ok(round)
     }
 
-    /// Adds to a round a copy of a notification for each adapter that gets it.
+    /// Adds to a round a copy of a notification for each adapter that gets the notification.
     fn add_notice<L: LinkStore>(
         &self,
         store: &L,
@@ -169,8 +174,8 @@ impl<A: Adapter> AdapterList<A> {
         Ok(())
     }
 
-    /// Adds to a round a copy of a notification for each adapter at an index in `ordinals`. For the last adapter the notification itself is
-    /// added.
+    /// Adds to a round a copy of a notification for each adapter at an index in `ordinals`. For the last of these adapters `notice` itself
+    /// is passed to `Round::add`, and for each of the others a clone.
     fn add_copies(
         &self,
         ordinals: &[usize],

@@ -15,8 +15,8 @@ use std::alloc::AllocError;
 use std::collections::BTreeSet;
 
 impl<A: Adapter> AdapterList<A> {
-    /// The indexes, in attach order, of the adapters that have a target among some objects. Only the adapters of these objects are looked
-    /// at. Fails only if memory is refused.
+    /// The indexes, in attach order, of the adapters that have a target among `objects`. Only the adapters of these objects are looked at.
+    /// Fails only if memory is refused.
     pub fn touched(&self, objects: &[ObjectNo]) -> Result<Vec<usize>, AllocError>
         ensures { IfOk result (λ v. v.items ≡ touched_by objects.now self.now.0) }
     {

@@ -1,4 +1,4 @@
-//! Giving an attached adapter one target more.
+//! Giving an attached adapter one more target.
 ghost use Rattle.std.specs.Prelude.{◌≡◌, ◌<◌, ◌≤◌, ℕ, None, Some, false, true, not, length, nat_lt, position, slice_index, take, OnErr, OnOk, IfOk, IfErr, if◌then◌else◌};
 ghost use Rattle.std.specs.Option.{option_map_or};
 ghost use Rattle.mm_types.specs.declared.limits.TheConstants.{TARGETS};
@@ -16,12 +16,14 @@ use notice_chain::Target;
 use std::alloc::AllocError;
 
 impl<A: Adapter> AdapterList<A> {
-    /// Gives an adapter one more target, the last in order, and reserves capacity for its last notification from that target. If the node
-    /// is a target of the adapter already, returns false, and nothing changes: the target stays deep, or not deep, as it was.
+    /// Gives the adapter with the number `no` one more target, the last of its targets, and reserves capacity for its last notification
+    /// from that target. Returns true. If the node is a target of the adapter already, returns false, and nothing changes: a flat target
+    /// stays flat, and a deep target stays deep.
     ///
-    /// Refused, in this order, with Limit if there are 100,000 targets, NoAdapter if no adapter with this number is attached and
-    /// AdapterFull if the adapter can't count a last notification from each of its targets and from the new one; or with Memory if memory
-    /// is refused. After a refusal the adapters were notified of nothing, and no adapter has less capacity.
+    /// Refused with the first of these that applies: Limit if all adapters together have 100,000 targets already; NoAdapter if no adapter
+    /// with this number is attached; AdapterFull if the adapter can't count a last notification from each of its targets and from the new
+    /// one; Memory if memory is refused. A refused call notifies no adapter and changes no target, and no adapter has less capacity than
+    /// before.
     pub fn watch(&mut self, no: AdapterNo, node: Node, deep: bool) -> Result<bool, Refused>
         ensures added { IfOk result (λ added. added ≡ not (is_target no node self.old.0)) }
         ensures ok { OnOk result (self.new.0 ≡ (if is_target no node self.old.0 then self.old.0 else adapters_after_watch no (record { node = node; deep = deep }) self.old.0)) }
@@ -52,7 +54,8 @@ impl<A: Adapter> AdapterList<A> {
         self.by_target.index_of(node, no).is_some()
     }
 
-    /// Gives the adapter at `ordinal`, which has the number `no`, a target that it lacks.
+    /// Gives the adapter at index `ordinal`, which has the number `no`, one more target, and reserves capacity for its last notification
+    /// from that target. The node must not be a target of the adapter yet.
     fn add_target(
         &mut self,
         ordinal: usize,
@@ -82,8 +85,8 @@ impl<A: Adapter> AdapterList<A> {
         Ok(())
     }
 
-    /// Gives the adapter at `ordinal`, which has the number `no`, a target that it lacks. The adapter already has capacity for a last
-    /// notification from the new target.
+    /// Gives the adapter at index `ordinal`, which has the number `no`, one more target, as `add_target` does. The adapter must already
+    /// have capacity for a last notification from each of its targets and from the new one.
     fn put_target(
         &mut self,
         ordinal: usize,
@@ -111,7 +114,7 @@ impl<A: Adapter> AdapterList<A> {
         Ok(())
     }
 
-    /// How many of the adapters before the index `ordinal` have a node as a target. Only the adapters of that node are looked at.
+    /// How many of the adapters with an index below `ordinal` have a node as a target. Only the adapters of that node are looked at.
     fn index_before(&self, ordinal: usize, node: Node) -> usize
         ensures { result ≡ length (entries node (take ordinal self.now.0)) }
     {
@@ -124,7 +127,7 @@ impl<A: Adapter> AdapterList<A> {
         index
     }
 
-    /// Whether the adapter with the number `no` is attached, and its index is before `ordinal`.
+    /// Whether the adapter with the number `no` is attached, and has an index below `ordinal`.
     fn is_before(&self, no: AdapterNo, ordinal: usize) -> bool
         ensures { result ≡ option_map_or (λ k. nat_lt k ordinal) (position (has_no no) self.now.0) false }
     {

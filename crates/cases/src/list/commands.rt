@@ -16,13 +16,13 @@ pub(super) const FIRST: Node = Node::Object(ObjectNo(0));
 
 pub(super) const NAME: FeatureNo = FeatureNo(0);
 
-/// The number of the adapter that is attached before the list of commands is done.
+/// The number of the adapter that `watch` attaches: before the list of commands is done, or before a snapshot of many books is taken.
 pub(super) const THERE: AdapterNo = AdapterNo(1);
 
-/// The number of the adapter that the list attaches.
+/// The number of the adapter that the list of commands attaches.
 pub(super) const BROUGHT: AdapterNo = AdapterNo(2);
 
-/// The outcome of a command, without its reply.
+/// The outcome of a command without the reply: `Ok` if the command was done, otherwise its refusal.
 pub(super) fn done<A: Adapter>(given: Result<Reply<A>, Refused>) -> Result<(), Refused> {
     match given {
         Ok(_) => Ok(()),

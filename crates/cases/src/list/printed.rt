@@ -7,8 +7,8 @@ use repository::{Act, Command, EndRead, Failure, NodeRead, Read, Reply, Reposito
 use std::io;
 use std::io::Write;
 
-/// Prints the outcome of a command: its answer and how many notifications there were; or its refusal and, if an adapter is given back, how
-/// many notifications that adapter got.
+/// Prints the outcome of a command. If the command was done: its answer, and how many notifications the adapters got. If it was refused:
+/// the refusal and, if an adapter is given back, how many notifications that adapter got.
 fn print_outcome<A: Adapter, W: Write>(
     writer: &mut W,
     outcome: &Result<Reply<A>, Failure<A>>,
@@ -40,7 +40,8 @@ pub(super) fn print_outcomes<A: Adapter, W: Write>(
     Ok(())
 }
 
-/// Prints a command that is given back and, if the command attaches an adapter, how many notifications the adapter got.
+/// Prints a command that is given back and, if the command attaches an adapter, how many notifications the adapter got. A command of a kind
+/// that the list of `commands` does not have is printed as `another`.
 fn print_command<A: Adapter, W: Write>(
     writer: &mut W,
     command: &Command<A>,

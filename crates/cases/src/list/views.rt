@@ -13,7 +13,7 @@ const SHELF: Node = Node::Resource(ResourceNo(0));
 
 const CONTENTS: FeatureNo = FeatureNo(1);
 
-/// Makes a book, which gets the number `number`, and puts the book into the resource.
+/// Makes a book, and puts the book into the resource. `number` must be the number that the book gets: how many objects were made before.
 fn put_book<L: LinkStore, A: Adapter>(
     repository: &mut Repository<L, A>,
     number: u32,
@@ -23,7 +23,7 @@ fn put_book<L: LinkStore, A: Adapter>(
     done(repository.add(SHELF, CONTENTS, book, None))
 }
 
-/// Makes a resource, and puts `count` books into it.
+/// Makes a resource, and puts `count` new books into the resource. The repository must be new: no resource and no object was made before.
 fn fill<L: LinkStore, A: Adapter>(
     repository: &mut Repository<L, A>,
     count: u32,
@@ -70,7 +70,7 @@ fn name_all<L: LinkStore, A: Adapter>(
     Ok(())
 }
 
-/// A snapshot, after the notifications were replayed on it.
+/// The snapshot `snapshot`, after the notifications `notices` were replayed on it.
 pub(super) fn view_of(
     alloc: Global,
     snapshot: Snapshot,
@@ -80,7 +80,7 @@ pub(super) fn view_of(
     Ok(Box::new(alloc, view)?)
 }
 
-/// How many nodes the replayed snapshot `view` has, if it is the same as a new snapshot; else `None`.
+/// How many nodes the replayed snapshot `view` has, if `view` is the same as a new snapshot of the resource; else `None`.
 fn nodes_of<L: LinkStore, A: Adapter>(
     repository: &Repository<L, A>,
     view: &Snapshot,
@@ -91,8 +91,8 @@ fn nodes_of<L: LinkStore, A: Adapter>(
     }
 }
 
-/// Takes a snapshot, names all books, adds the notifications of these changes to `notices`, and replays the notifications on the snapshot.
-/// Returns how many nodes the snapshot then has, if it is the same as a new snapshot; else `None`.
+/// Takes a snapshot of the resource, names the `count` books, adds the notifications of these changes to `notices`, and replays the
+/// notifications on the snapshot. Returns how many nodes the snapshot then has, if it is the same as a new snapshot; else `None`.
 fn viewed<L: LinkStore, A: Adapter>(
     alloc: Global,
     repository: &mut Repository<L, A>,
@@ -105,9 +105,9 @@ fn viewed<L: LinkStore, A: Adapter>(
     Ok(nodes_of(repository, &view)?)
 }
 
-/// Makes `count` books in a resource, attaches a deep adapter to the resource, takes a snapshot of it, and names the books. Replays the
-/// notifications of these changes on the snapshot. Returns how many nodes the snapshot then has, if it is the same as a new snapshot; else
-/// `None`.
+/// Makes `count` books in a resource, attaches a deep adapter to the resource, takes a snapshot of the resource, and names the books.
+/// Replays the notifications of these changes on the snapshot. Returns how many nodes the snapshot then has, if it is the same as a new
+/// snapshot; else `None`.
 pub(super) fn followed<L: LinkStore, A: Adapter>(
     alloc: Global,
     repository: &mut Repository<L, A>,

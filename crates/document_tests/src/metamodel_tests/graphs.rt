@@ -44,7 +44,7 @@ fn diamond(alloc: Global) -> Result<Vec<Seq<usize>>, AllocError> {
     rows_of(alloc, &[&[2, 1], &[3], &[3], &[]])
 }
 
-/// A ladder of diamonds: each class 3i is the supertype of 3i+1 and 3i+2, and these two are supertypes of 3i+3.
+/// A ladder of diamonds with `count` classes: each class 3i is the supertype of 3i+1 and 3i+2, and these two are the supertypes of 3i+3.
 fn ladder(alloc: Global, count: usize) -> Result<Vec<Seq<usize>>, AllocError> {
     let mut graph = Vec::new(alloc);
     for c in 0..count {
@@ -92,7 +92,8 @@ fn inherited_by(
     format!(in alloc; "{order:?} {rows}")
 }
 
-/// An order in which each class comes after its supertypes, and all features of each class.
+/// An order in which each class comes after its supertypes, and all features of each class, as a text; `own` has the features that each
+/// class declares. Fails if the graph has a cycle.
 fn inherited(alloc: Global, graph: &[Seq<usize>], own: &[Seq<u32>]) -> Result<String, Fail> {
     if !is_in_range(graph) || own.len() != graph.len() {
         return Err(Fail::new("these are no classes"));
@@ -140,7 +141,8 @@ fn classes_conform_through_two_steps_and_not_sideways(rt: HostRuntime) -> Result
     Ok(())
 }
 
-/// The first class on a cycle, whether there is an order of the classes, and whether class 0 reaches each class.
+/// The first class on a cycle, whether there is an order in which each class comes after its supertypes, and whether class 0 reaches each
+/// class.
 fn cycle_of(alloc: Global, graph: &[Seq<usize>]) -> Result<String, Fail> {
     if !is_in_range(graph) || graph.is_empty() {
         return Err(Fail::new("these are no classes"));
@@ -202,7 +204,7 @@ fn names_clash_across_a_diamond(rt: HostRuntime) -> Result<(), Fail> {
     Ok(())
 }
 
-/// For each class one feature that it declares; the feature has the same number as the class.
+/// For each of `count` classes one feature, which the class declares; the feature has the same number as the class.
 fn one_each(alloc: Global, count: u32) -> Result<Vec<Seq<u32>>, AllocError> {
     let mut own = Vec::new(alloc);
     for c in 0..count {
@@ -239,7 +241,8 @@ fn last_conforms(alloc: Global, graph: &[Seq<usize>]) -> Result<Option<bool>, Al
     Ok(Some(conforms.as_slice().iter().all(|conforms| *conforms)))
 }
 
-/// The first class on a cycle, how many features the last class has, and whether the last class conforms to every class.
+/// The first class on a cycle, how many features the last class has (`None` if there is a cycle), and whether the last class conforms to
+/// every class.
 fn last_of(alloc: Global, graph: &[Seq<usize>], own: &[Seq<u32>]) -> Result<String, Fail> {
     if !is_in_range(graph) || own.len() != graph.len() {
         return Err(Fail::new("these are no classes"));

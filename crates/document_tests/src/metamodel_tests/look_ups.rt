@@ -1,12 +1,13 @@
-//! The look-ups in the library's metamodel: by each number of a feature or a class, by the number past the last, and by names.
+//! The look-ups in the library's metamodel. Features and classes are looked up by their numbers, by the number past the last one, and by
+//! names; literals are looked up by index and by name.
 use crate::fixtures::library::library;
 use mm_meta::Meta;
 use mm_types::{ClassNo, FeatureNo};
 use std::alloc::{AllocError, Global};
 use std::test::Fail;
 
-/// For each feature, and for the number past the last, which is the number of `contents`: the name, the default and the opposite of the
-/// feature, and whether the feature is a container reference.
+/// For each feature: its name, its default, its opposite, and whether the feature is a container reference. The last line is for the number
+/// past the last feature, which is the number of `contents`.
 const FEATURES: &str = "name Some(Null) None false
 books Some(Null) Some(FeatureNo(9)) false
 members Some(Null) None false
@@ -168,7 +169,8 @@ fn features_are_found_by_name(rt: HostRuntime) -> Result<(), Fail> {
     Ok(())
 }
 
-/// Enumerations with indexes and names, by which literals are looked up.
+/// The look-ups of literals. Each entry has the number of an enumeration, and the index and the name by which a literal of this enumeration
+/// is looked up.
 const LITERALS: [(u32, u32, &str); 5] = [
     (0, 0, "NOVEL"),
     (0, 1, "POEM"),

@@ -11,8 +11,8 @@ fn text_or_none(text: &Option<Text>) -> &str {
     }
 }
 
-/// For an attribute: whether it is unique, whether it is unsettable, and its default. For a reference: whether it is a
-/// containment, and its opposite.
+/// For an attribute: whether it is unique, whether it is unsettable, and its default. For a reference: whether it is a containment, and its
+/// opposite. A default or an opposite that the document does not give is `none`.
 fn kind_text(alloc: Global, kind: &RawKind) -> Result<String, AllocError> {
     match kind {
         RawKind::Attribute {
@@ -88,7 +88,7 @@ Folder false []
   parent Folder 0..1 false subs
 "#;
 
-/// A document with its keys in a different order than `LIBRARY`, with one key twice, and with most keys left out.
+/// A document with its keys in a different order than `LIBRARY`, with one key twice, and with most of the optional keys left out.
 const BOOK_AND_SHELF: &str = r#"{"classes":[{"features":[
         {"default":"-1","type":"EInt","kind":"attribute","name":"pages"},
         {"name":"t\u00e9","kind":"attribute","type":"EString"}

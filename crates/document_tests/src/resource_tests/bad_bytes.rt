@@ -21,7 +21,7 @@ fn is_answered(refusal: Option<Refused>) -> bool {
     }
 }
 
-/// Replaces the byte at a position of a document by each of `BYTES` in turn. Returns whether each document that this gives is read, or
+/// Replaces the byte at a position of a document by each of `BYTES` in turn. Returns whether each of the documents that result is read, or
 /// refused with a cause.
 fn are_answered(
     alloc: Global,

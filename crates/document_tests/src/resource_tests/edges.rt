@@ -1,4 +1,5 @@
-//! Documents at the limit of the bytes of a text, documents at the limit of the levels of objects, and a document with 100,000 roots.
+//! Documents whose texts have as many bytes as a text may have, or one byte more; documents whose objects are at as many levels as a
+//! document may have, or at more; and a document with 100,000 roots.
 use crate::fixtures::resource::{library, of_roots, refusal};
 use mm_meta::Meta;
 use mm_types::{DocFault, Refused};

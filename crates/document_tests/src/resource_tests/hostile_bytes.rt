@@ -1,8 +1,9 @@
 //! The text of a metamodel, and two documents of objects of this metamodel. Each of the three texts is cut at each byte, or has one byte
-//! replaced by a byte 0, by a byte 255 or by a quote. The text that this gives is read or refused, and the answers are counted.
+//! replaced by a byte 0, by a byte 255 or by a quote. Each text that results is read or refused, and the answers are counted.
 //!
 //! The expected counts follow from the grammar of JSON. None of the three texts has a backslash. A text that is cut before its last brace
-//! is no JSON. Nor is a text with a byte 0 (JSON has none), with a byte 255 (UTF-8 has none), or with an odd number of quotes.
+//! is no JSON. Nor is a text with a byte 0 (JSON has none), with a byte 255 (UTF-8 has none), or with an odd number of quotes. If a quote
+//! is replaced by a quote, the text stays as it is, and is read.
 use crate::fixtures::library::{LIBRARY, library};
 use crate::fixtures::resource::refusal;
 use mm_check::check_document;
@@ -88,7 +89,7 @@ fn document_answer(alloc: Global, meta: &Meta, bytes: &[u8]) -> Option<u32> {
     }
 }
 
-/// Reads a text, and counts the answer. Fails if the answer has no number.
+/// Reads a text, and counts the answer. Fails if the answer has no number below 13.
 fn count(
     alloc: Global,
     meta: &Meta,
@@ -119,7 +120,7 @@ fn cut(alloc: Global, meta: &Meta, input: &Input) -> Result<Counts, Fail> {
     Ok(counts)
 }
 
-/// A text with the byte at a position replaced by `byte`.
+/// The bytes of a text, with the byte at the index `at` replaced by `byte`.
 fn with_byte(alloc: Global, text: &str, at: usize, byte: u8) -> Result<Vec<u8>, AllocError> {
     let mut bytes = text.as_bytes().to_vec(alloc)?;
     if at < bytes.len() {
@@ -128,7 +129,7 @@ fn with_byte(alloc: Global, text: &str, at: usize, byte: u8) -> Result<Vec<u8>, 
     Ok(bytes)
 }
 
-/// Replaces each byte of a text in turn by `byte`, and counts the answers.
+/// Replaces each byte of a text by `byte`, only one at a time, and counts the answers to the texts that result.
 fn replaced(alloc: Global, meta: &Meta, input: &Input, byte: u8) -> Result<Counts, Fail> {
     let mut counts = [0; 13];
     for at in 0..input.text.len() {

@@ -2,7 +2,7 @@
 use crate::fixtures::resource::{library, of_roots, told};
 use std::test::Fail;
 
-/// Roots of documents, and what they are read as.
+/// Roots, and what a document of format 1 with these roots is read as.
 const READINGS: [(&str, &str); 16] = [
     ("", "roots"),
     // A library with staff, books and likes: each object comes before its contents, by feature and then by position.
@@ -27,17 +27,17 @@ const READINGS: [(&str, &str); 16] = [
             "subs":[{"class":"Folder","features":{"friends_of":["//@cover"]}}]}}}}"#,
         "3[ 16: #1; ] 4[ 17: #2; 19: #2; ] 4[ 20: #1; ] roots #0",
     ),
-    // An empty array is the same as absent.
+    // A feature with an empty array is read like a feature that is absent.
     (
         r#"{"class":"Book","features":{"tags":[],"scores":[]}}"#,
         "2[ ] roots #0",
     ),
-    // Written values stay, also a default, and null for a single text.
+    // Each value in the document is read as a value of the object, also a default, and null for a single text.
     (
         r#"{"class":"Book","features":{"pages":100,"note":null,"tags":["b","a"],"scores":[1,1],"genre":"POEM","big":9223372036854775807,"lent":true,"name":null}}"#,
         r#"2[ 0: Null; 4: 100; 5: "b" "a"; 6: 1 1; 7: Null; 8: Literal(1); 9: 9223372036854775807; 10: Bool(true); ] roots #0"#,
     ),
-    // Each end has the order that the document gives it.
+    // The values of each end have the order that they have in the document.
     (
         r#"{"class":"Folder","features":{"friends":["/2","/1"]}},
            {"class":"Folder","features":{"friends_of":["/0"]}},

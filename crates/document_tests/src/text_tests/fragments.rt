@@ -2,7 +2,8 @@
 use std::alloc::Global;
 use web_uris::parse;
 
-/// Fragments as they are written: with an empty segment for the root if the flag is true, else with the root's index.
+/// Fragments as they are written, each with a flag: the segment for the root is empty if the flag is true, else it is the root's index. The
+/// only segment of the fragment `/` is empty.
 const FRAGMENTS: [(&str, bool); 8] = [
     ("/", true),
     ("/0", false),

@@ -1,4 +1,4 @@
-//! The calls of texts, values and sequences.
+//! The functions of the types `Text`, `Value` and `Seq`.
 use mm_types::{ObjectNo, Seq, Text, Value};
 use std::alloc::{AllocError, Global};
 use std::test::Fail;
@@ -35,7 +35,7 @@ fn shown_twice(alloc: Global, value: &Value) -> Result<String, AllocError> {
     format!(in alloc; "{value:?} {copy:?}")
 }
 
-/// The value with the index `at` among six values without a text: one of each kind, and a second object.
+/// The value with the index `at` in a list of six values: one of each kind that has no text, and a second object.
 fn value(at: u32) -> Value {
     match at {
         0 => Value::Null,

@@ -1,5 +1,5 @@
-//! What adapters of each kind keep of three notifications; two of the adapters are called in a `Box`. And a counter that can't count any
-//! further.
+//! What adapters of each kind keep of three notifications; two of the adapters are called in a `Box`. Also, a counter refuses capacity for
+//! more notifications than it can still count.
 use crate::fixtures::latest::Latest;
 use crate::fixtures::notices::added;
 use adapters::{Adapter, Counter, NoRoom, Recorder, Window};
@@ -20,7 +20,7 @@ fn notify_three<A: Adapter>(adapter: &mut A) -> Result<(), NoRoom> {
     }
 }
 
-/// The position in the notification that an adapter keeps at index `i`.
+/// The position in the notification that an adapter keeps at index `i`; `None` if the adapter keeps no notification there.
 fn position_at<A: Adapter>(adapter: &A, i: u64) -> Option<i64> {
     match adapter.kept(i) {
         Some(notice) => Some(notice.position),
@@ -28,7 +28,8 @@ fn position_at<A: Adapter>(adapter: &A, i: u64) -> Option<i64> {
     }
 }
 
-/// Notifies an adapter three times, and checks which notifications it keeps, by their positions.
+/// Notifies an adapter three times. Checks how many notifications the adapter got, how many it keeps at most (`room`; `None` if all), and
+/// which it keeps: `kept` has their positions.
 fn check_three<A: Adapter>(rt: &impl Abort, adapter: &mut A, room: Option<u64>, kept: &[i64]) {
     assert!(rt; notify_three(adapter).is_ok());
     assert_eq!(rt; adapter.told(), 3);

@@ -1,4 +1,4 @@
-//! Adapters that are attached, given targets, notified and refused.
+//! Lists of adapters. Adapters are attached, given targets and notified; attaches, targets and chains are refused.
 use crate::fixtures::no_links::without_links;
 use crate::fixtures::notices::added;
 use crate::fixtures::telling::{Kind, NEARLY_FULL, adapter, attach, tell, three, three_notices};
@@ -9,7 +9,7 @@ use notice_chain::{Chain, Notice};
 use std::alloc::{AllocError, Global};
 use std::test::Fail;
 
-/// How many notifications the three adapters of a list got.
+/// How many notifications each of the three adapters of a list got.
 fn told_of_three<A: Adapter>(list: &AdapterList<A>) -> [Option<u64>; 3] {
     [
         list.told(AdapterNo(5)),
@@ -18,7 +18,8 @@ fn told_of_three<A: Adapter>(list: &AdapterList<A>) -> [Option<u64>; 3] {
     ]
 }
 
-/// Why three notifications are not delivered to a list of three adapters at object 1, and how many notifications each adapter has counted.
+/// Tries to deliver `three_notices` to three adapters at object 1. Returns why the chain is refused (`None` if it is delivered), and how
+/// many notifications each adapter has counted afterwards.
 fn refused_to_three<A: Adapter>(
     alloc: Global,
     first: A,
@@ -32,8 +33,8 @@ fn refused_to_three<A: Adapter>(
     Ok((refused, told_of_three(&*list)))
 }
 
-/// Three adapters in attach order, and why a chain is refused. Some of the adapters can't be notified of the chain, and the first of these
-/// decides.
+/// For each case: the kinds of three adapters, in attach order, and why a chain is refused. One or two of the adapters can't be notified of
+/// the chain; the first of these in attach order decides.
 const REFUSED: [(Kind, Kind, Kind, Refused); 3] = [
     (
         Kind::Recorder,
@@ -55,7 +56,8 @@ const REFUSED: [(Kind, Kind, Kind, Refused); 3] = [
     ),
 ];
 
-/// How many notifications each adapter has counted if none was notified. The second adapter is nearly full in each case.
+/// How many notifications each adapter of a case of `REFUSED` has counted if no adapter was notified. The second adapter is nearly full in
+/// each case.
 const NONE_TOLD: [Option<u64>; 3] = [Some(0), Some(NEARLY_FULL), Some(0)];
 
 #[test]
@@ -69,7 +71,7 @@ fn a_chain_that_one_adapter_cannot_hear_notifies_none(rt: HostRuntime) -> Result
     Ok(())
 }
 
-/// Three counters: two at object 1, and one at object 2 between them.
+/// A list of three counters: the first and the third are at object 1, and the second is at object 2.
 fn counters(alloc: Global) -> Result<Box<AdapterList<Counter>>, Fail> {
     three(
         alloc,
@@ -80,7 +82,8 @@ fn counters(alloc: Global) -> Result<Box<AdapterList<Counter>>, Fail> {
     )
 }
 
-/// The number and the first target of the adapter at each index, and `None` at the index past the last.
+/// The number and the first target of the adapter at each index of the list that `counters` makes, and `None` at the index past the last
+/// adapter.
 const PLACES: [Option<(AdapterNo, Node)>; 4] = [
     Some((AdapterNo(5), Node::Object(ObjectNo(1)))),
     Some((AdapterNo(6), Node::Object(ObjectNo(2)))),
@@ -88,7 +91,7 @@ const PLACES: [Option<(AdapterNo, Node)>; 4] = [
     None,
 ];
 
-/// The number and the first target of the adapter at an index.
+/// The number and the first target of the adapter at an index; `None` if the list has no adapter there.
 fn first_at<A: Adapter>(list: &AdapterList<A>, i: usize) -> Option<(AdapterNo, Node)> {
     let (no, targets) = list.at(i)?;
     let target = targets.front()?;
@@ -119,7 +122,7 @@ fn adapters_stand_in_attach_order(rt: HostRuntime) -> Result<(), Fail> {
     Ok(())
 }
 
-/// Which adapter is notified of what, by the adapter's number and the notification's position.
+/// Which adapter is notified of what, in order, as `5 0, 7 0, `: the adapter's number and the notification's position.
 fn told(alloc: Global, told: &[(AdapterNo, Notice)]) -> Result<String, AllocError> {
     let mut shown = String::new(alloc);
     for (no, notice) in told {
@@ -176,7 +179,7 @@ fn a_taken_number_and_a_full_adapter_are_not_attached(rt: HostRuntime) -> Result
     Ok(())
 }
 
-/// The targets of an adapter, each with whether it is deep.
+/// The targets of an adapter as a text, each with its flag `deep`; `none` if no adapter has the number `no`.
 fn targets<A: Adapter>(
     alloc: Global,
     list: &AdapterList<A>,

@@ -1,4 +1,5 @@
-//! An adapter that is refused when it is attached once more. Its `Box` is given back, with the notifications that it got.
+//! An adapter that is refused when it is to be attached for the second time. The adapter is given back in its `Box`, as it was before: it
+//! still counts the notifications that it got, and still keeps those that it kept.
 use crate::fixtures::books::{NAME, RowRepository, attach, object, one_book, text};
 use crate::fixtures::counted::{Drops, NO_DROPS, counted_box};
 use crate::fixtures::replies::{failure_text, made};
@@ -10,8 +11,8 @@ use std::cell::Cell;
 use std::rc::Rc;
 use std::test::Fail;
 
-/// A case in which an adapter can't be attached. The adapter was attached to a book before: it got a notification of a change, and
-/// REMOVING_ADAPTER when it was detached. The number 6 is taken by a different adapter.
+/// A case in which an adapter can't be attached to `target` under the number `no`. The adapter was attached to a book before: it got a
+/// notification of a change, and REMOVING_ADAPTER when it was detached. The number 6 is taken by a different adapter.
 struct Again {
     kind: Kind,
     no: u32,
@@ -77,7 +78,7 @@ fn heard<A: Adapter>(
 }
 
 /// Attaches an adapter; the attach has to be refused. Returns the refusal, the notifications of the adapter that is given back, and how
-/// many adapters were dropped by then.
+/// many adapters had been dropped when the attach was refused.
 fn refused<A: Adapter>(
     alloc: Global,
     repository: &mut RowRepository<A>,
@@ -91,8 +92,8 @@ fn refused<A: Adapter>(
     }
 }
 
-/// What `refused` returns for `adapter`, which has got notifications before, in a repository of one book. `other` is attached to the book
-/// as number 6.
+/// What `refused` returns for `adapter` in a repository of one book. Before, `heard` attaches the adapter, notifies it and detaches it.
+/// `other` is attached to the book as number 6.
 fn refused_at_a_book<A: Adapter>(
     alloc: Global,
     again: &Again,

@@ -15,7 +15,8 @@ const NAME: FeatureNo = FeatureNo(0);
 
 const VIEW: AdapterNo = AdapterNo(1);
 
-/// Attaches a view to a book, names the book, and detaches the view: it comes back with what it was notified of.
+/// Attaches a view to a book, names the book, and detaches the view. Returns the view, with what it was notified of; `None` if the view is
+/// not given back.
 fn name_book<L: LinkStore, A: Adapter>(
     alloc: Global,
     repository: &mut Repository<L, A>,
@@ -34,7 +35,7 @@ fn name_book<L: LinkStore, A: Adapter>(
     }
 }
 
-/// Makes a repository with one book, and names the book while a view is attached to it.
+/// Makes a repository with one book, and names the book while a view is attached to the book. Returns what `name_book` returns.
 fn session<A: Adapter>(alloc: Global, meta: Meta, view: A) -> Result<Option<A>, Fail> {
     let mut repository = Box::new(alloc, Repository::<RowStore, A>::new(alloc, meta))?;
     let Answer::Object(book) = repository.create(BOOK)?.answer else {

@@ -1,4 +1,4 @@
-//! The calls that concern a repository's adapters. Each call is done in one test, and refused in another.
+//! Calls and commands that concern a repository's adapters. They are done in some tests, and refused in others.
 use crate::fixtures::books::{BOOK, NAME, RowRepository, attach, object, one_book, text};
 use crate::fixtures::replies::{given, made, outcome_text};
 use crate::fixtures::telling::{Kind, adapter};
@@ -21,7 +21,7 @@ fn attached<A: Adapter>(
     text
 }
 
-/// Names the book, and unsets its name.
+/// Names the book, and unsets the book's name.
 fn name_and_unname<A: Adapter>(
     alloc: Global,
     repository: &mut RowRepository<A>,
@@ -73,8 +73,9 @@ fn an_adapter_is_attached_counted_and_detached(rt: HostRuntime) -> Result<(), Fa
     Ok(())
 }
 
-/// Attaches an adapter to a first book, gives it a second book as a target twice, takes the first book from it twice, and takes the second
-/// book from it. Returns the outcomes of these calls, each on a line of its own.
+/// Attaches an adapter to the first book and makes a second book. Then gives the adapter the second book as a target twice, takes the first
+/// book from the adapter twice, and takes the second book from the adapter once. Returns the outcomes of the attach and of these five
+/// calls, each on a line of its own.
 fn calls_of_targets<A: Adapter>(
     alloc: Global,
     repository: &mut RowRepository<A>,
@@ -178,7 +179,7 @@ fn commands_attach_count_and_detach(rt: HostRuntime) -> Result<(), Fail> {
     Ok(())
 }
 
-/// Commands that are refused in a repository of one book, with an adapter under the number 5 and none under the number 9.
+/// Commands that are refused if the repository has one book, an adapter with the number 5, and no adapter with the number 9.
 fn refused_commands(alloc: Global) -> Result<Vec<Command<Counter>>, AllocError> {
     let heard = || Counter::starting_at(41);
     let full = Counter::starting_at(18446744073709551615);

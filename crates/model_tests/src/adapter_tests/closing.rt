@@ -13,8 +13,8 @@ fn closed_with_two<A: Adapter>(alloc: Global, first: A, second: A) -> Result<Str
     Ok(closed(alloc, repository)?)
 }
 
-/// The adapters come back in attach order. When an adapter is taken from the book, it has the index 0 among the adapters that the book
-/// still has.
+/// What `closed_with_two` returns. The adapters come back in attach order. In each REMOVING_ADAPTER the position is 0: the adapter's index
+/// among the adapters that the book still has when this adapter is taken from the book.
 const CLOSED: &str = "; A6 back, 1 told, REMOVING_ADAPTER 0; A5 back, 1 told, REMOVING_ADAPTER 0";
 
 #[test]

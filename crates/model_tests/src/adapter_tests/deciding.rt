@@ -1,4 +1,4 @@
-//! Which of two adapters decides why a chain is refused, if neither can be notified of it.
+//! Which of two adapters decides why a chain is refused, if neither adapter can be notified of the chain.
 use crate::fixtures::no_links::without_links;
 use crate::fixtures::notices::added;
 use crate::fixtures::telling::{Kind, adapter, attach, tell};
@@ -9,7 +9,8 @@ use notice_chain::Chain;
 use std::alloc::Global;
 use std::test::Fail;
 
-/// Why a chain is refused by two adapters at two objects. The first notification of the chain is for the object of the second adapter.
+/// Tries to deliver a chain to two adapters at two objects. Returns why the chain is refused; `None` if it is delivered. The first
+/// notification of the chain is at the object of the second adapter, and the second notification is at the object of the first adapter.
 fn refused_to_two<A: Adapter>(alloc: Global, first: A, second: A) -> Result<Option<Refused>, Fail> {
     let mut list = Box::new(alloc, AdapterList::new(alloc))?;
     attach(&mut *list, 5, 1, first)?;
@@ -19,7 +20,7 @@ fn refused_to_two<A: Adapter>(alloc: Global, first: A, second: A) -> Result<Opti
     Ok(tell(alloc, &store, &mut *list, chain).err())
 }
 
-/// Two adapters in attach order, and why the chain is refused.
+/// For each case: the kinds of two adapters, in attach order, and why the chain is refused.
 const REFUSED: [(Kind, Kind, Refused); 2] = [
     (Kind::LastAlone, Kind::Poor, Refused::AdapterFull),
     (Kind::Poor, Kind::LastAlone, Refused::Memory),

@@ -11,7 +11,8 @@ use std::cell::Cell;
 use std::rc::Rc;
 use std::test::Fail;
 
-/// How many parts were dropped after a list of three adapters was closed, and how many after the adapters that it gave back were dropped.
+/// How many parts were dropped, in all, after each of two steps: a list of three adapters is closed; the adapters that the list gave back
+/// are dropped.
 fn drops_on_the_way<A: Adapter>(
     alloc: Global,
     first: A,
@@ -113,8 +114,8 @@ fn a_dropped_list_drops_its_adapters(rt: HostRuntime) -> Result<(), Fail> {
     assert_eq!(rt; drops.get().all, 0);
     drop(list);
     assert_eq!(rt; drops.get().all, 3);
-    // No adapter was notified of REMOVING_ADAPTER: of the calls of a list, only `detach`, `release`, `deliver_and_release` and `close` do
-    // that.
+    // No adapter was notified of REMOVING_ADAPTER: of the calls of a list, only `detach`, `release`, `deliver_and_release` and `close`
+    // notify adapters of it.
     assert_eq!(rt; drops.get().removed, 0);
     Ok(())
 }

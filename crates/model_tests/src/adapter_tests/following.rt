@@ -39,8 +39,8 @@ fn after(
     Ok(Box::new(alloc, view)?)
 }
 
-/// Takes a snapshot of a library, then names the library and adds a book to it. Returns the snapshot after the notifications of both
-/// changes were replayed on it.
+/// Takes a snapshot of a library and attaches a deep adapter to the library. Then names the library and adds a book to it. Returns the
+/// snapshot after the notifications of both changes were replayed on it.
 fn follow<L: LinkStore>(
     alloc: Global,
     repository: &mut Repository<L, Counter>,

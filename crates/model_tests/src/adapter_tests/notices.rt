@@ -1,4 +1,4 @@
-//! The kinds of notifications by number and name, and a chain that gives its notifications back.
+//! The kinds of notifications by number and name, a chain that has its notifications in order, and the position that means no index.
 use crate::fixtures::notices::added;
 use mm_types::AdapterNo;
 use notice_chain::{Chain, NO_INDEX, NoticeKind};
@@ -29,19 +29,27 @@ fn kinds_have_numbers_and_names(rt: HostRuntime) {
 }
 
 #[test]
-fn a_chain_gives_its_notices_back(rt: HostRuntime) -> Result<(), Fail> {
-    let mut chain = Chain::new(rt.alloc());
+fn a_chain_has_its_notices_in_order(rt: HostRuntime) -> Result<(), Fail> {
+    let alloc = rt.alloc();
+    let mut chain = Chain::none(alloc);
     assert!(rt; chain.is_empty());
-    chain.push(added(0, 0))?;
-    chain.push(added(0, 1).clone()?)?;
+    chain.push(alloc, added(0, 4))?;
+    assert_eq!(rt; chain.len(), 1);
+    chain.push(alloc, added(0, 7).clone()?)?;
+    chain.push(alloc, added(0, 2))?;
     assert!(rt; !chain.is_empty());
-    let (first, rest) = chain.into_parts();
-    assert_eq!(rt; first.map(|notice| notice.position), Some(0));
-    assert_eq!(rt; rest.len(), 1);
-    let (none, again) = Chain::from_vec(rest).into_parts();
-    assert!(rt; none.is_none());
-    assert_eq!(rt; again.as_slice()[0].position, 1);
+    assert_eq!(rt; chain.len(), 3);
+    assert_eq!(rt; chain.as_slice()[0].position, 4);
+    assert_eq!(rt; chain.as_slice()[1].position, 7);
+    assert_eq!(rt; chain.as_slice()[2].position, 2);
     Ok(())
+}
+
+#[test]
+fn a_chain_of_one_has_its_notice(rt: HostRuntime) {
+    let chain = Chain::one(added(0, 7));
+    assert_eq!(rt; chain.len(), 1);
+    assert_eq!(rt; chain.as_slice()[0].position, 7);
 }
 
 #[test]

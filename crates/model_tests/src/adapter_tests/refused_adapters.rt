@@ -27,14 +27,14 @@ fn state<A: Adapter>(alloc: Global, repository: &RowRepository<A>) -> Result<Str
     format!(in alloc; "{counts:?} {name:?}")
 }
 
-/// The state before: no adapter was notified, and the book's name is null.
+/// What `state` returns before the book is named: no adapter was notified, and the book's name is null.
 const BEFORE: &str = "(Ok((0, 0)), Ok((0, 0)), Ok((0, 0))) Ok(One(Null))";
 
-/// What the second attempt to name the book gives.
+/// The reply of the second attempt to name the book, as a text.
 const TOLD: &str =
     "Done; A5 SET Null Text(\"Emma\") -1 false; A6 SET Null Text(\"Emma\") -1 false; A7 SET Null Text(\"Emma\") -1 false";
 
-/// Three adapters of a book, in attach order. One of them is refused memory when the book is named for the first time.
+/// Three adapters of a book, in attach order. One of them is refused memory at the first attempt to name the book.
 struct Watched {
     kinds: [Kind; 3],
     /// How many notifications each adapter got and keeps, and the book's name, after the second attempt to name the book. The adapter that
@@ -62,7 +62,7 @@ const WATCHED: [Watched; 3] = [
     },
 ];
 
-/// Why the book is not named, and the state before and after.
+/// Tries to name the book. Returns the state before the call, the refusal (`None` if the book is named), and the state after the call.
 fn refusal<A: Adapter>(alloc: Global, repository: &mut RowRepository<A>) -> Result<String, Fail> {
     let before = state(alloc, repository)?;
     let refused = made(name_book(alloc, repository, 0)?).err();
@@ -75,8 +75,8 @@ fn named<A: Adapter>(alloc: Global, repository: &mut RowRepository<A>) -> Result
     given(alloc, name_book(alloc, repository, 0)?)
 }
 
-/// Names a book with three adapters, twice. Returns three texts: the refusal of the first call between the states before and after it, the
-/// reply of the second call, and the state at the end.
+/// Tries to name a book with three adapters, twice. Returns three texts: the refusal of the first call between the states before and after
+/// this call, the reply of the second call, and the state at the end.
 fn named_twice<A: Adapter>(
     alloc: Global,
     repository: &mut RowRepository<A>,
@@ -100,7 +100,8 @@ fn twice_at_a_book<A: Adapter>(
     Ok((found, closed))
 }
 
-/// What `twice_at_a_book` returns with three adapters. Each adapter is in a `Box`, and has a part whose drop is counted.
+/// What `twice_at_a_book` returns with three adapters of the kinds `kinds`. Each adapter is in a `Box`, and has a part whose drop is
+/// counted.
 fn twice_by(
     alloc: Global,
     drops: &Rc<Cell<Drops>>,

@@ -14,8 +14,9 @@ use notice_chain::Notice;
 use std::alloc::{AllocError, Global};
 use std::test::Fail;
 
-/// Does steps over both stores of links. After every step, the nodes that a view has had from its beginning on are compared with a new
-/// snapshot. Returns whether at least `least` nodes are compared, and the same number over both stores.
+/// Does steps over both stores of links. After every step, in each view the nodes that were in the view all the time are compared with a
+/// new snapshot. Fails if such a node differs. Counts each node anew for each view and for each step. Returns whether the count is at least
+/// `least`, and the same over both stores.
 fn is_followed(alloc: Global, steps: &[Step<'_>], least: usize) -> Result<bool, Fail> {
     let rows = compared::<RowStore>(alloc, steps)?;
     let slots = compared::<SlotStore>(alloc, steps)?;
@@ -104,7 +105,7 @@ fn a_delete_that_cuts_lists_is_followed(rt: HostRuntime) -> Result<(), Fail> {
     Ok(())
 }
 
-/// A library and 999 books; fifty of the books come into the library, their pages are set, and the library is deleted.
+/// Steps that make a library and 999 books, add fifty of the books to the library and set their pages, and delete the library.
 fn many_books<'a>(alloc: Global) -> Result<Vec<Step<'a>>, AllocError> {
     let mut steps = Vec::new(alloc);
     steps.push(Step::New(A_LIBRARY))?;
@@ -189,8 +190,8 @@ fn flags_and_values_are_followed(rt: HostRuntime) -> Result<(), Fail> {
     Ok(())
 }
 
-/// Puts a book into a library, and takes the book out again. Returns whether this gives three notifications, and whether the replay of
-/// these notifications on the library's snapshot from before gives the library's snapshot from afterwards.
+/// Puts a book into a library, and takes the book out again. Returns whether the deep adapter of the library gets three notifications, and
+/// their replay on the library's snapshot from before gives the library's snapshot from afterwards.
 fn come_and_go(alloc: Global) -> Result<bool, Fail> {
     let mut repository: Box<Store<RowStore>> = empty(alloc, metamodel(alloc, LIBRARY)?)?;
     let mut told = Vec::new(alloc);

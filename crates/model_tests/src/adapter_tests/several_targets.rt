@@ -21,7 +21,7 @@ fn two_books<A: Adapter>(alloc: Global) -> Result<Box<RowRepository<A>>, Fail> {
     Ok(repository)
 }
 
-/// Attaches an adapter to the first book and gives it the second as a target too.
+/// Attaches an adapter to the first book, and gives the adapter the second book as a target too.
 fn watch_both<A: Adapter>(
     repository: &mut RowRepository<A>,
     no: u32,
@@ -38,8 +38,8 @@ fn state<A: Adapter>(alloc: Global, repository: &RowRepository<A>) -> Result<Str
     format!(in alloc; "{told:?} {name:?}")
 }
 
-/// The refusal to name the second book, and the state after it. Then, line by line, the outcomes of three calls: name the second book
-/// again, take the first book from adapter 6, and destroy the second book.
+/// Tries to name the second book. Returns the refusal and the state after the call, and then, each on a line of its own, the outcomes of
+/// three calls: name the second book, take the first book from adapter 6, and destroy the second book.
 fn calls<A: Adapter>(alloc: Global, repository: &mut RowRepository<A>) -> Result<String, Fail> {
     let refused = made(name_book(alloc, repository, 1)?).err();
     let state = state(alloc, repository)?;
@@ -70,14 +70,15 @@ fn calls_by<A: Adapter>(
     Ok((found, closed))
 }
 
-/// What the calls give, whichever adapter is refused memory. After the first book is taken from adapter 6, the second book is the last
-/// target of this adapter.
+/// What `calls` returns, whichever of the three adapters is refused memory. After the first book is taken from adapter 6, the second book
+/// is the last target of this adapter. So adapter 6 is given back when the second book is destroyed.
 const CALLS: &str = "Some(Memory) [Ok(0), Ok(0), Ok(0)] Ok(One(Null))
 Done; A5 SET Null Text(\"Emma\") -1 false; A6 SET Null Text(\"Emma\") -1 false; A7 SET Null Text(\"Emma\") -1 false
 Flag(true); A6 REMOVING_ADAPTER Null Null 1 false
 Destroyed(1); A5 REMOVING_ADAPTER Null Null 0 false; A6 REMOVING_ADAPTER Null Null 0 false; A7 REMOVING_ADAPTER Null Null 0 false; A6 back, 3 told, SET -1, REMOVING_ADAPTER 1, REMOVING_ADAPTER 0";
 
-/// The adapters that are given back at the end: each adapter was taken from the second book, and then from the first.
+/// The adapters that are given back when the repository is closed. Each of them lost the second book as a target when the book was
+/// destroyed, and loses the first book now.
 const CLOSED: &str =
     "; A5 back, 3 told, SET -1, REMOVING_ADAPTER 0, REMOVING_ADAPTER 0; A7 back, 3 told, SET -1, REMOVING_ADAPTER 0, REMOVING_ADAPTER 0";
 
@@ -100,8 +101,8 @@ fn a_set_that_one_of_three_cannot_hear_at_its_second_target_notifies_none(
     Ok(())
 }
 
-/// Three outcomes: of giving adapter 5 the second book as a target, of naming that book, and of giving the adapter that target once more.
-/// The first and the last outcome are the refusal, or `None` if the call was done.
+/// Tries to give adapter 5 the second book as a target, names the second book, and tries to give adapter 5 the second book as a target once
+/// more. Returns the three outcomes. The first and the last are the refusal, or `None` if the call was done.
 fn named_between_refusals<A: Adapter>(
     alloc: Global,
     repository: &mut RowRepository<A>,
@@ -161,7 +162,8 @@ fn refused_to_two<A: Adapter>(
 #[test]
 fn the_first_adapter_that_refuses_decides(rt: HostRuntime) -> Result<(), Fail> {
     let alloc = rt.alloc();
-    // A nearly full counter can get only the last notifications of its two targets, and no other before them.
+    // `LastAlone` with one target, and `NearlyFull` with two targets, can get only the last notification for each target, and no other
+    // before.
     let cases = [
         (false, Kind::LastAlone, Kind::Poor, Refused::AdapterFull),
         (false, Kind::Poor, Kind::LastAlone, Refused::Memory),
@@ -184,8 +186,9 @@ fn the_first_adapter_that_refuses_decides(rt: HostRuntime) -> Result<(), Fail> {
     Ok(())
 }
 
-/// The notification that the second adapter of a list gets when a target is taken from it, as `REMOVING_ADAPTER 1`, with `, back` after it
-/// if the adapter has no target left; `none` if the object is no target of the adapter.
+/// Takes the object `target` from adapter 6, the second adapter of a list. Returns the kind and the position of the notification that the
+/// adapter gets, as `REMOVING_ADAPTER 1`; if the adapter has no target left, `, back` follows. Returns `none` if the object is no target of
+/// the adapter.
 fn detached<A: Adapter>(
     alloc: Global,
     list: &mut AdapterList<A>,

@@ -1,5 +1,5 @@
-//! Values that no script can name are refused for lists, and so are features and resources that do not exist. A list can't be read or set
-//! as a single value.
+//! Refused calls at lists: with values of a wrong type, some of which no script can name; at features and resources that do not exist; and
+//! calls that read or set a list as a single value.
 use crate::fixtures::books::{RowRepository, object, text};
 use crate::fixtures::boxes::{LIKES, MARKS, PARTS, boxes};
 use crate::fixtures::replies::made;
@@ -8,7 +8,8 @@ use mm_types::{FeatureNo, Node, Refused, ResourceNo, Text, Value};
 use std::alloc::{AllocError, Global};
 use std::test::Fail;
 
-/// Why the value `first` is not added to a list of a node, and why the value `second` is not removed from the list.
+/// Why the value `first` is not added to a list of a node, and why the value `second` is not removed from the list; `None` if the call is
+/// done.
 fn refusals<A: Adapter>(
     repository: &mut RowRepository<A>,
     node: Node,
@@ -25,7 +26,8 @@ fn proxy(alloc: Global) -> Result<Value, AllocError> {
     Ok(Value::Proxy(Text::from_str(alloc, "a.xmi#/")?))
 }
 
-/// Why a proxy, a literal and a Boolean are refused for the lists of a box.
+/// What `refusals` returns for a proxy at the list `parts` of a box, for a literal at its list `marks`, and for a Boolean at its list
+/// `likes`.
 fn refusals_of_type<A: Adapter>(
     alloc: Global,
     repository: &mut RowRepository<A>,

@@ -29,7 +29,7 @@ fn state<A: Adapter>(alloc: Global, repository: &RowRepository<A>) -> Result<Str
     format!(in alloc; "{first:?} {last:?} {told:?}")
 }
 
-/// Puts the second box into a box.
+/// Puts the second box into the box whose number is `into`.
 fn put<A: Adapter>(repository: &mut RowRepository<A>, into: u32) -> Result<Reply<A>, Refused> {
     repository.add(object(into), PARTS, Value::Object(ObjectNo(1)), None)
 }
@@ -43,8 +43,8 @@ fn packed<A: Adapter>(alloc: Global, first: A, second: A) -> Result<Box<RowRepos
     Ok(repository)
 }
 
-/// Puts the second box into the last box, twice. Returns why the first call is refused, the reply of the second call, and the state before,
-/// between and after the calls.
+/// Tries twice to put the second box into the last box. Returns why the first call is refused, the reply of the second call, and the state
+/// before, between and after the calls.
 fn put_twice<A: Adapter>(alloc: Global, repository: &mut RowRepository<A>) -> Result<String, Fail> {
     let before = state(alloc, repository)?;
     let refused = made(put(repository, 3)).err();
@@ -54,7 +54,7 @@ fn put_twice<A: Adapter>(alloc: Global, repository: &mut RowRepository<A>) -> Re
     Ok(format!(in alloc; "{before}\n{refused:?}\n{between}\n{told}\n{after}")?)
 }
 
-/// What `put_twice` returns in a new repository of boxes.
+/// What `put_twice` returns in the repository that `packed` makes.
 fn put_twice_at_boxes<A: Adapter>(alloc: Global, first: A, second: A) -> Result<String, Fail> {
     let mut repository = packed(alloc, first, second)?;
     put_twice(alloc, &mut repository)

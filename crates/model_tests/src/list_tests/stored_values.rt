@@ -1,6 +1,6 @@
-//! Plans of edits of attribute values, and the expected state after these plans, written by hand.
+//! Plans of edits of objects, attribute values and URIs. The state that is expected after these plans is written by hand.
 use crate::fixtures::values::{empty, put_many, remove, shift};
-use mm_types::{ClassNo, FeatureNo, ObjectNo, ResourceNo, Seq, Text, Value};
+use mm_types::{ClassNo, FeatureNo, ObjectNo, ResourceNo, Text, Value};
 use mm_values::{NewValues, ValueEdit, ValuePlan, Values};
 use std::alloc::{AllocError, Global};
 use std::test::Fail;
@@ -20,11 +20,11 @@ fn put(object: u32, feature: u32, number: i64) -> ValueEdit {
 
 /// The edit that puts a number and null under feature 3 of object 0, and sets the flag of this feature.
 fn put_two(alloc: Global) -> Result<ValueEdit, AllocError> {
-    let list = Seq::from_vec(vec![in alloc; Value::Int(4), Value::Null]?);
+    let list = vec![in alloc; Value::Int(4), Value::Null]?;
     Ok(ValueEdit::PutList {
         object: ObjectNo(0),
         feature: FeatureNo(3),
-        list: NewValues::from_seq(list),
+        list: NewValues::from_vec(list),
         flag: true,
     })
 }
@@ -35,7 +35,7 @@ fn run(values: &mut Values, plan: ValuePlan) -> Result<(), AllocError> {
     Ok(())
 }
 
-/// The values that an object has under a feature.
+/// The values that an object has under a feature; `None` if there is no such object.
 fn listed(
     alloc: Global,
     values: &Values,
@@ -74,7 +74,7 @@ fn held(
 }
 
 /// How many resources there are, the URIs of the first two, and which resources have the URIs `a.xmi` and `b.xmi`; how many objects were
-/// made; and what `held` gives for each of the first three objects.
+/// made, destroyed ones included; and what `held` gives for each of the first three objects.
 fn seen(alloc: Global, values: &Values, features: [u32; 2]) -> Result<String, AllocError> {
     let uris = (values.uri(ResourceNo(0)), values.uri(ResourceNo(1)));
     let found = (values.resource_of("a.xmi"), values.resource_of("b.xmi"));
@@ -102,7 +102,7 @@ fn seen_after(
 
 /// The plan of some edits, in their order.
 fn planned(edits: Vec<ValueEdit>) -> ValuePlan {
-    ValuePlan::from_seq(Seq::from_vec(edits))
+    ValuePlan::from_vec(edits)
 }
 
 /// A plan that makes an object and a resource, puts two values into the object, and makes and destroys a second object. The last edit is
@@ -189,7 +189,8 @@ fn insert(object: u32, feature: u32, index: u32, number: i64) -> ValueEdit {
     }
 }
 
-/// The plan of edits of two lists of one object, some of them at indexes past the end, and of a list of an object that was never made.
+/// The plan of edits of two lists of object 0, and of a list of object 1, which was never made. Some of the edits are at indexes past the
+/// end of the list.
 fn list_edits(alloc: Global) -> Result<ValuePlan, AllocError> {
     Ok(planned(vec![in alloc;
         insert(0, 3, 0, 1),

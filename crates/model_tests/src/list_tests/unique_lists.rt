@@ -1,5 +1,5 @@
-//! Tests of whether a list has a value: with short lists, lists just below and above the length from which hashes are counted, and long
-//! lists.
+//! Tests of whether a list has a value. Some lists are short, and some are long. Some have the first length at which hashes are counted,
+//! and some have one value fewer.
 use crate::fixtures::values::{empty, put_many, remove, shift};
 use mm_types::{ClassNo, FeatureNo, ObjectNo, Text, Value};
 use mm_values::{ValueEdit, ValuePlan, Values};
@@ -64,8 +64,8 @@ fn filled(alloc: Global, count: u32) -> Result<Box<Values>, Fail> {
     Ok(values)
 }
 
-/// Looks for the number `at` in the list. Fails if the list lacks the number although it is in the range from `first` to below `before`, or
-/// has the number although it is outside of this range.
+/// Looks for the number `at` in the list. Fails unless the list has this number exactly if the number is in the range from `first` to below
+/// `before`.
 fn check_number(values: &Values, at: u32, first: u32, before: u32) -> Result<(), Fail> {
     let has = values.has(OBJECT, FEATURE, &number(at));
     if has == Some(first <= at && at < before) {
@@ -88,8 +88,8 @@ fn check_edges(values: &Values, first: u32, before: u32) -> Result<(), Fail> {
     Ok(())
 }
 
-/// Fails unless the list has all numbers of the range from `first` to below `before`, and no other numbers. In a long list, not every
-/// number is looked for.
+/// Looks for the numbers from 0 to below `before + 20` in the list. Fails unless the list has exactly those in the range from `first` to
+/// below `before`. If `before` is at least 1000, looks only for the numbers of `check_edges` and for every 37th number.
 fn check(values: &Values, first: u32, before: u32) -> Result<(), Fail> {
     check_edges(values, first, before)?;
     for at in 0..before.saturating_add(20) {
@@ -113,8 +113,8 @@ fn check_edits(values: &mut Values, count: u32) -> Result<(), Fail> {
     check(values, 1, count)
 }
 
-/// Replaces a list by a short list, and then by a list of `count` numbers from 0 on; adds one more value each time. At the end takes the
-/// first value out. Checks the list after each edit.
+/// Replaces a list by a short list, and then by a list of `count` numbers from 0 on; adds one more value after each replacement. At the end
+/// takes the first value out. Checks the list after each edit.
 fn check_replaced(alloc: Global, values: &mut Values, count: u32) -> Result<(), Fail> {
     run(values, put_many(alloc, 3)?)?;
     check(values, 0, 3)?;
@@ -150,7 +150,7 @@ fn a_value_that_stands_twice_is_there_until_both_are_gone(rt: HostRuntime) -> Re
     Ok(())
 }
 
-/// Values of each kind.
+/// A value of each kind.
 fn kinds(alloc: Global) -> Result<Vec<Value>, AllocError> {
     Ok(vec![in alloc;
         Value::Null,

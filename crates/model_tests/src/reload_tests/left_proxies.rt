@@ -8,8 +8,8 @@ use mm_types::{AdapterNo, Node, ObjectNo, Refused, Text, Value};
 use std::alloc::{AllocError, Global};
 use std::test::Fail;
 
-/// The references of the first root of the first resource, and how many proxies are left in both resources after the attempt to resolve all
-/// proxies. One of the proxies that are left is in the second resource.
+/// For each case: the references of the first root of the first resource, as JSON, and how many proxies are left in the two resources
+/// together after the attempt to resolve all proxies. In each case one of the proxies that are left is in the second resource.
 const LEFT: [(&str, u64); 8] = [
     // No object is at the fragment.
     (r#""sees":["1#/7"]"#, 2),
@@ -43,7 +43,7 @@ fn documents(alloc: Global, features: &str) -> Result<Vec<Text>, AllocError> {
     Ok(vec![in alloc; first, Text::from_str(alloc, SECOND)?]?)
 }
 
-/// Attaches an adapter to each of the five objects, and a deep adapter to each of the two resources.
+/// Attaches a flat adapter to each of the five objects, and a deep adapter to each of the two resources.
 fn attach_to_each<L: LinkStore>(repository: &mut Network<L>) -> Result<(), Refused> {
     for no in 0..5 {
         attach(repository, no, object(no), false)?;

@@ -109,7 +109,7 @@ fn attach_two<L: LinkStore>(repository: &mut Network<L>, room: u64) -> Result<()
     attach(repository, 0, resource(0), true, counter)
 }
 
-/// Fails unless the adapters got no notification since they were attached.
+/// Fails if one of the two counters got a notification since it was attached.
 fn check_untold<L: LinkStore>(repository: &Network<L>, room: u64) -> Result<(), Fail> {
     let told = (
         repository.adapter_told(AdapterNo(0)),
@@ -140,9 +140,8 @@ fn check_refused<L: LinkStore>(
     Ok(())
 }
 
-/// If all proxies are resolved, the adapter of the first resource is notified six times, and it must still be able to get REMOVING_ADAPTER.
-/// Checks that the command is refused if this adapter has capacity for fewer than seven notifications, and is done if it has capacity for
-/// seven.
+/// Checks that resolving all proxies is refused if the counter at the first resource can count only one to six more notifications, and is
+/// done if it can count seven. The counter would be notified six times, and must still be able to get REMOVING_ADAPTER.
 fn check_rooms<L: LinkStore>(alloc: Global, repository: &mut Network<L>) -> Result<(), Fail> {
     let texts = documents(alloc)?;
     reload(alloc, repository, texts.as_slice(), IN_ORDER)?;

@@ -81,7 +81,8 @@ fn sites<L: LinkStore>(alloc: Global, repository: &Network<L>) -> Result<Vec<Sit
     Ok(sites)
 }
 
-/// How many links some proxies stand for; a link of a reference with an opposite has a proxy at each end.
+/// How many links the proxies at `sites` stand for. A link of a reference with an opposite has a proxy at each of its two ends; `sees` and
+/// `top` have no opposite.
 fn count_links(sites: &[Site]) -> u64 {
     let ends = sites
         .iter()
@@ -141,7 +142,8 @@ fn is_resolved<L: LinkStore>(repository: &mut Network<L>, site: Site) -> Result<
     }
 }
 
-/// Resolves the proxies at the locations one by one, in the given order of the locations. Returns how many were resolved.
+/// Resolves the proxies at the locations one by one; `order` has the indexes of the locations, in the order in which they are taken.
+/// Returns how many proxies were resolved; the two proxies of one link count as one.
 fn resolve_each<L: LinkStore>(
     repository: &mut Network<L>,
     sites: &[Site],
@@ -155,8 +157,8 @@ fn resolve_each<L: LinkStore>(
     Ok(done)
 }
 
-/// Loads the texts, and resolves all proxies one by one, in an order that is chosen by a seed. Checks that no proxy is left, and that each
-/// resource is saved as its text again.
+/// Loads the texts, and resolves all proxies one by one, in an order that is chosen by a seed. Checks how many were resolved, that no proxy
+/// is left, and that each resource is saved as its text again.
 fn check_one_by_one<L: LinkStore>(
     alloc: Global,
     repository: &mut Network<L>,
@@ -200,7 +202,8 @@ fn check_order<L: LinkStore>(alloc: Global, texts: &[Text], seed: u32) -> Result
     check_at_once(alloc, &mut repository, texts, order)
 }
 
-/// Saves the model that is chosen by a seed. Loads it in three orders, and resolves all proxies by one command each time.
+/// Saves the model that is chosen by a seed. Then makes and loads the model's resources three times, in orders that depend on the seed, and
+/// checks each time what `check_at_once` checks.
 fn check_seed<L: LinkStore>(alloc: Global, items: u32, seed: u32) -> Result<(), Fail> {
     let texts = texts_of::<L>(alloc, items, seed)?;
     for order in 10..13 {
@@ -218,7 +221,8 @@ fn models_of_three_seeds_are_had_again(rt: HostRuntime) -> Result<(), Fail> {
     Ok(())
 }
 
-/// Saves the model that is chosen by a seed. Loads it, and resolves the proxies one by one.
+/// Saves the model that is chosen by a seed. Then loads the model, resolves the proxies one by one, and checks what `check_one_by_one`
+/// checks.
 fn check_seed_one_by_one<L: LinkStore>(alloc: Global, items: u32, seed: u32) -> Result<(), Fail> {
     let texts = texts_of::<L>(alloc, items, seed)?;
     let order = Order {

@@ -38,7 +38,8 @@ fn a_live_run_at_a_byte_at_a_time_answers_each_line(rt: HostRuntime) -> Result<(
     Ok(())
 }
 
-/// The length of the answers to the lines that are whole in the first `bytes` bytes of the script.
+/// How many bytes of answers a live run has written when it has read the first `bytes` bytes of the script. It answers only the lines whose
+/// newline it has read.
 fn answered(bytes: usize) -> usize {
     match bytes {
         0..=8 => 0,

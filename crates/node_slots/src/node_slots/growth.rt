@@ -14,7 +14,7 @@ use links::{Edit, NewLink, Plan};
 use mm_types::{End, FeatureNo, Node, ObjectNo};
 use std::alloc::AllocError;
 
-/// The indexes of the rows of both nodes of a put.
+/// The indexes of the rows of the two nodes of a put.
 #[derive(Clone, Copy)]
 pub struct PutPlaces {
     /// The index of the row of the node that gets the object: the node of the link's end.
@@ -35,7 +35,7 @@ impl NodeSlots {
         }
     }
 
-    /// How many more entries of a node can be added in reserved capacity. The entries of a node are the ends with no opposite that have the
+    /// How many more entries can be added to a node in reserved capacity. The entries of a node are the ends with no opposite that have the
     /// node as a value.
     #[tactic(auto, unfolding(crate::specs::Cells::room))]
     fn entries(&self, node: Node) -> usize
@@ -47,7 +47,7 @@ impl NodeSlots {
         }
     }
 
-    /// Takes back the capacity that is reserved for values of an end.
+    /// Takes back the capacity that is reserved for values of an end. No memory is freed: the memory stays for later reservations.
     fn forget(&mut self, end: End)
         ensures { cells self.new ≡ cells self.old }
     {
@@ -61,8 +61,8 @@ impl NodeSlots {
         );
     }
 
-    /// Takes back the capacity that is reserved for the far side of a put: for values of the opposite end, or, if there is no opposite, for
-    /// ends that have the object as a value.
+    /// Takes back the capacity that is reserved for the far side of a put: for values of the opposite end (the feature `opposite` of
+    /// `object`); or, if there is no opposite, for ends that have `object` as a value.
     fn forget_far(&mut self, object: ObjectNo, opposite: Option<FeatureNo>)
         ensures { cells self.new ≡ cells self.old }
     {
@@ -76,7 +76,8 @@ impl NodeSlots {
         }
     }
 
-    /// Whether the values of an end are to get labels, by which they are found.
+    /// Whether the values of an end are to get labels, by which their indexes are guessed. They are to get labels if a removal found that
+    /// the numbers of the objects neither rise nor fall along the list, and the objects have no labels yet.
     fn needs_labels(&self, end: End) -> bool {
         match self.slot(end) {
             Some(slot) => slot.values.needs_labels(),
@@ -94,9 +95,10 @@ impl NodeSlots {
         }
     }
 
-    /// Takes back the capacity that is reserved at each end to which an edit adds a value, and at each node to which it adds an entry. If
-    /// `is_done`, the capacity at the end that `edit` names was already taken back for an earlier edit, and is not taken back again. An end
-    /// from which a cut takes a value may get labels, so that the cut finds the value fast.
+    /// Takes back the capacity that is reserved at each end to which an edit adds a value, and at each node to which the edit adds an
+    /// entry. An entry of a node is an end that has the node as a value and has no opposite. `is_done` says that the capacity at the end
+    /// that `edit` names was taken back for an earlier edit; then it is not taken back again. If the edit is a cut, the values of the end
+    /// that the edit names may get labels (`label`), so that the cut finds its value fast.
     fn forget_edit(&mut self, edit: &Edit, is_done: bool)
         ensures { cells self.new ≡ cells self.old }
     {
@@ -113,13 +115,15 @@ impl NodeSlots {
         }
     }
 
-    /// Takes back the capacity that is reserved at each end to which a plan adds a value, and at each node to which it adds an entry.
+    /// Takes back the capacity that is reserved at each end to which a plan adds a value, and at each node to which the plan adds an entry.
+    /// An entry of a node is an end that has the node as a value and has no opposite.
     fn forget_plan(&mut self, plan: &[Edit])
         ensures { cells self.new ≡ cells self.old }
     {
         let mut forgotten = None;
         for edit in plan {
-            // If consecutive puts, of objects or proxies, name the same end, the first of them takes back the capacity of that end.
+            // If a put, of an object or a proxy, names the same end as the last put before it, the capacity of this end was taken back for
+            // that put.
             let end = edit.end();
             self.forget_edit(edit, forgotten == Some(end));
             if matches!(edit, Edit::Put(_) | Edit::PutProxy { .. }) {
@@ -128,7 +132,8 @@ impl NodeSlots {
         }
     }
 
-    /// The index of the row of a node; makes the row if there is none. Fails only if memory is refused. Changes no value and moves no row.
+    /// The index of the row of a node; makes the row if there is none. Fails only if memory is refused. No value changes, and each row
+    /// keeps its index.
     fn make_row(&mut self, node: Node) -> Result<usize, AllocError>
         ensures cells { cells self.new ≡ cells self.old }
         ensures room { HasGained no_values no_ends (room self.old) (room self.new) }
@@ -141,7 +146,8 @@ impl NodeSlots {
         }
     }
 
-    /// Reserves capacity for one more value of an end, in the row of the end's node: for any value if `is_mixed`, otherwise for an object.
+    /// Reserves capacity for one more value of an end: for any value if `is_mixed`, otherwise for an object. `row_index` is the index of
+    /// the row of the end's node. Fails only if memory is refused; no value changes.
     fn promise_at(&mut self, end: End, row_index: usize, is_mixed: bool) -> Result<(), AllocError>
         requires at { row_index_of self.old end.node ≡ Some row_index }
         ensures cells { cells self.new ≡ cells self.old }
@@ -161,8 +167,9 @@ impl NodeSlots {
         }
     }
 
-    /// Reserves capacity for the far side of a put, in the row of the object: for a value of the opposite end, or, if there is no opposite,
-    /// for an end that has the object as a value.
+    /// Reserves capacity for the far side of a put: for a value of the opposite end (the feature `opposite` of `object`); or, if there is
+    /// no opposite, for one more end that has `object` as a value. `row_index` is the index of the row of `object`. Fails only if memory is
+    /// refused; no value changes.
     fn promise_far_at(
         &mut self,
         object: ObjectNo,
@@ -181,7 +188,8 @@ impl NodeSlots {
         }
     }
 
-    /// Reserves capacity for one more value of an end: for any value if `is_mixed`, otherwise for an object.
+    /// Reserves capacity for one more value of an end: for any value if `is_mixed`, otherwise for an object. Fails only if memory is
+    /// refused; no value changes.
     fn promise(&mut self, end: End, is_mixed: bool) -> Result<(), AllocError>
         ensures cells { cells self.new ≡ cells self.old }
         ensures ok { OnOk result (HasGained (λ e. one_if (same_end end e)) no_ends (room self.old) (room self.new)) }
@@ -191,8 +199,8 @@ impl NodeSlots {
         self.promise_at(end, row_index, is_mixed)
     }
 
-    /// Reserves capacity for the far side of a put: for a value of the opposite end, or, if there is no opposite, for an end that has the
-    /// object as a value.
+    /// Reserves capacity for the far side of a put: for a value of the opposite end (the feature `opposite` of `object`); or, if there is
+    /// no opposite, for one more end that has `object` as a value. Fails only if memory is refused; no value changes.
     fn promise_far(
         &mut self,
         object: ObjectNo,
@@ -205,7 +213,8 @@ impl NodeSlots {
         self.promise_far_at(object, row_index, opposite)
     }
 
-    /// Reserves capacity at each end to which an edit adds a value, and at each node to which it adds an entry.
+    /// Reserves capacity at each end to which an edit adds a value, and at each node to which the edit adds an entry. An entry of a node is
+    /// an end that has the node as a value and has no opposite. Fails only if memory is refused; no value changes.
     fn promise_edit(&mut self, edit: &Edit) -> Result<(), AllocError>
         ensures cells { cells self.new ≡ cells self.old }
         ensures ok { OnOk result (HasGained (λ e. gain e edit.now) (λ n. entry n edit.now) (room self.old) (room self.new)) }
@@ -221,8 +230,8 @@ impl NodeSlots {
         }
     }
 
-    /// Reserves capacity for a plan, in place of the capacity that was reserved for an earlier plan at the same ends. Fails only if memory
-    /// is refused. Changes no value.
+    /// Reserves capacity for a plan. Capacity that was reserved before is first taken back at each end and each node to which the plan adds
+    /// something, and at each end whose values get labels for a cut. Fails only if memory is refused; no value changes.
     pub fn reserve_for(&mut self, plan: &Plan) -> Result<(), AllocError>
         ensures cells { cells self.new ≡ cells self.old }
         ensures ok { OnOk result (HasRoom (room self.new) plan.now) }
@@ -235,9 +244,9 @@ impl NodeSlots {
         Ok(())
     }
 
-    /// Reserves capacity for one link, in addition to the capacity that was reserved before, and returns the indexes of the rows of both
-    /// nodes. Fails only if memory is refused; no value changes. If memory is refused for the far side, all capacity that is reserved for
-    /// values of the link's end is taken back.
+    /// Reserves capacity for one link, in addition to the capacity that was reserved before, and returns the indexes of the rows of the two
+    /// nodes of the link. Fails only if memory is refused; no value changes. If memory is refused for the far side, all capacity that is
+    /// reserved for values of the link's end is taken back.
     pub fn reserve_put(&mut self, link: NewLink) -> Result<PutPlaces, AllocError>
         ensures cells { cells self.new ≡ cells self.old }
         ensures near { IfOk result (λ p. row_index_of self.new link.end.node ≡ Some p.near) }

@@ -22,11 +22,11 @@ use std::mem;
 
 impl<L: LinkStore, A: Adapter> Repository<L, A> {
     /// Attaches an adapter to a node (EMF: Notifier.eAdapters().add). The node is the adapter's first target, and the adapter is last in
-    /// attach order. A deep adapter is also notified of changes below the node.
+    /// attach order. If `deep`, the adapter is also notified of changes below the node.
     ///
-    /// Refused, the first that applies: `NoObject`, `NoResource`, `Limit` if there are 100,000 targets, `AdapterTaken` if an adapter with
-    /// this number is attached, `AdapterFull` if the adapter can't count its last notification, `Memory`. A refused adapter is given back
-    /// as it was.
+    /// Refused, the first that applies: `NoObject`, `NoResource`, `Limit` if all adapters together have 100,000 targets, `AdapterTaken` if
+    /// an adapter with this number is attached, `AdapterFull` if the adapter can't count its last notification, `Memory`. If the attach is
+    /// refused, the adapter is given back with the notifications that it had.
     pub fn attach(
         &mut self,
         no: AdapterNo,
@@ -54,12 +54,12 @@ impl<L: LinkStore, A: Adapter> Repository<L, A> {
 
     /// Gives an adapter one more target, flat or deep (EMF: Notifier.eAdapters().add of an adapter that is attached elsewhere). The adapter
     /// gets each notification once, even if the notifier is below several deep targets of the adapter, or is a target itself and also below
-    /// a deep target. If the node is a target of the adapter already, the call returns false and nothing changes: a flat target stays flat,
-    /// and a deep target stays deep.
+    /// a deep target. Returns whether the adapter got the target. If the node is a target of the adapter already, this is false and nothing
+    /// changes: a flat target stays flat, and a deep target stays deep.
     ///
-    /// Refused, the first that applies: `NoObject`, `NoResource`, `Limit` if there are 100,000 targets, `NoAdapter` if no adapter with this
-    /// number is attached, `AdapterFull` if the adapter can't count a last notification from each of its targets and from the new one,
-    /// `Memory`. If the node is a target of the adapter already, only the first two refusals apply.
+    /// Refused, the first that applies: `NoObject`, `NoResource`, `Limit` if all adapters together have 100,000 targets, `NoAdapter` if no
+    /// adapter with this number is attached, `AdapterFull` if the adapter can't count a last notification from each of its targets and from
+    /// the new one, `Memory`. If the node is a target of the adapter already, only the first two refusals apply.
     pub fn watch(&mut self, no: AdapterNo, target: Node, deep: bool) -> Result<Reply<A>, Refused>
         ensures { Executed self.old (Watch no target deep) (change_outcome (changed_view A.heard result)) self.new }
     {
@@ -75,8 +75,8 @@ impl<L: LinkStore, A: Adapter> Repository<L, A> {
     }
 
     /// Takes one target from an adapter. The adapter is notified of REMOVING_ADAPTER, its last notification from that target, and is given
-    /// back if it has no other target (EMF: Notifier.eAdapters().remove). If the node is no target of the adapter, returns false and
-    /// notifies no adapter.
+    /// back if it has no other target (EMF: Notifier.eAdapters().remove). Returns whether the node was a target of the adapter. If it was
+    /// not, nothing changes and no adapter is notified.
     ///
     /// Refused, the first that applies: `NoObject`, `NoResource`, `NoAdapter` if no adapter with this number is attached, `Memory`.
     pub fn unwatch(&mut self, no: AdapterNo, target: Node) -> Result<Reply<A>, Refused>
@@ -98,7 +98,7 @@ impl<L: LinkStore, A: Adapter> Repository<L, A> {
     /// Detaches an adapter from all its targets, in the order in which the adapter got the targets (EMF: Notifier.eAdapters().remove). The
     /// adapter is notified of REMOVING_ADAPTER from each target, and is given back.
     ///
-    /// Refused with `NoAdapter` if no adapter with this number is attached, or `Memory`.
+    /// Refused with `NoAdapter` if no adapter with this number is attached, or with `Memory`.
     pub fn detach(&mut self, no: AdapterNo) -> Result<Reply<A>, Refused>
         ensures { Executed self.old (Detach no) (change_outcome (changed_view A.heard result)) self.new }
     {
@@ -111,7 +111,9 @@ impl<L: LinkStore, A: Adapter> Repository<L, A> {
         self.release(spots, Answer::Done)
     }
 
-    /// Releases targets, and returns `answer` in the reply. The only refusal is `Memory`.
+    /// Takes targets from their adapters, and returns a reply with `answer`, the last notifications from these targets, and the adapters
+    /// that have no target left. Each pair in `spots` names an adapter and a node; the pair is skipped if the node is no target of the
+    /// adapter. Refused only with `Memory`.
     fn release(
         &mut self,
         spots: Vec<(AdapterNo, Node)>,
@@ -164,8 +166,8 @@ impl<L: LinkStore, A: Adapter> Repository<L, A> {
         adapters.close()
     }
 
-    /// Every adapter is notified of REMOVING_ADAPTER and given back, in the order in which `close` does this. The call is for a process
-    /// that is about to end. The memory of objects, values and links is not freed, since freeing it block by block takes about as long as
+    /// Notifies every adapter of REMOVING_ADAPTER and gives it back, as `close` does and in the same order. The call is for a process that
+    /// is about to end. The memory of objects, values and links is not freed, since freeing it block by block takes about as long as
     /// allocating it. Takes no memory.
     pub fn close_at_exit(self) -> Vec<(AdapterNo, A)>
         ensures { map (λ b. (b.0, A.heard b.1)) result.items ≡ adapters_at_close self }

@@ -31,7 +31,8 @@ use mm_values::ValuePlan;
 use notice_chain::Chain;
 
 impl<L: LinkStore, A: Adapter> Repository<L, A> {
-    /// Makes an object of a class; each of its attributes has its default (EMF: EFactory.create). Notifies no adapter.
+    /// Makes an object of a class (EMF: EFactory.create). Each single attribute of the object has its default, and all other features are
+    /// empty. Notifies no adapter.
     ///
     /// Refused, the first that applies: `NoClass`, `Abstract`, `Limit` if 1,000,000 objects were made, `Memory`.
     pub fn create(&mut self, class: ClassNo) -> Result<Reply<A>, Refused>
@@ -43,9 +44,9 @@ impl<L: LinkStore, A: Adapter> Repository<L, A> {
 
     /// Sets a single feature of an object (EMF: EObject.eSet). If the feature has an opposite, the opposite ends change too. Links that the
     /// new link displaces are cut at both ends, and an object that is put into a container leaves its former container. Notifies the
-    /// adapters at each end that changes, and the deep adapters above that end: of the losses of displaced links, of the gain at the
-    /// opposite end, and of SET at the feature itself. The adapters at the feature are notified of SET even if the feature had the value
-    /// already.
+    /// adapters at each end that changes, and the deep adapters above that end: first at the ends that lose a link and gain nothing, then
+    /// at the opposite end that gains the link, and last of SET at the feature itself. The adapters at the feature are notified of SET even
+    /// if the feature had the value already.
     ///
     /// Refused, the first that applies: `NoObject` if the node or the value is an object that does not live, `NoResource`, `NoFeature`,
     /// `NotSingle` if the feature is many-valued, `WrongType`, `TextLength` above 65,535 bytes, `Bound` if the opposite list has to gain a
@@ -69,7 +70,7 @@ impl<L: LinkStore, A: Adapter> Repository<L, A> {
     /// Unsets a feature of a node (EMF: EObject.eUnset): a single attribute gets its default, a single reference becomes null, a list
     /// becomes empty, and the opposite ends change too. Notifies the adapters at each opposite end, and then the adapters at the feature.
     /// If the feature is single, the adapters at the feature are notified of UNSET, whether the feature was set or not. If the feature is a
-    /// list, they are notified of one REMOVE for each value, from the last value to the first. At each end, the deep adapters above it are
+    /// list, they are notified of one REMOVE for each value, from the last value to the first. The deep adapters above each end are
     /// notified too.
     ///
     /// Refused, the first that applies: `NoObject`, `NoResource`, `NoFeature`, `AdapterFull`, `Memory`.
@@ -81,9 +82,10 @@ impl<L: LinkStore, A: Adapter> Repository<L, A> {
 
     /// Destroys an object and all objects below it, and takes each of them out of every end that has it as a value (EMF: EcoreUtil.delete,
     /// recursively). No other object ever gets the number of a destroyed object. If ends of other nodes lose values, the adapters at these
-    /// ends and the deep adapters above them are notified. The order is by feature number, then by node, then by position; the end that
-    /// contained the object comes last. Then each adapter loses its targets that were destroyed. The adapter is notified of
-    /// REMOVING_ADAPTER from each of these targets, and is given back if it has no other target. Returns how many objects were destroyed.
+    /// ends and the deep adapters above them are notified. The notifications come by feature number, then by the number of the node, then
+    /// by position; but the notification at the end that contained the object comes last. Then each adapter, in attach order, loses its
+    /// targets that were destroyed. It is notified of REMOVING_ADAPTER from each of these targets, and is given back if it has no other
+    /// target. Returns how many objects were destroyed.
     ///
     /// Refused, the first that applies: `NoObject`, `AdapterFull`, `Memory`.
     pub fn delete(&mut self, object: ObjectNo) -> Result<Reply<A>, Refused>
@@ -92,8 +94,9 @@ impl<L: LinkStore, A: Adapter> Repository<L, A> {
         self.change(Change::Delete(object))
     }
 
-    /// Carries out a change that loads no document. First checks the conditions that need no memory, and returns the refusal if one
-    /// applies.
+    /// Carries out a change that loads no document. If the change makes a resource, its URI must be normalised. First looks for the
+    /// refusals that are found before planning, and returns the first that applies.
+    #[inline(always)]
     pub(super) fn change(&mut self, change: Change) -> Result<Reply<A>, Refused>
         requires proper { IsProper (reads self.old) [] change }
         ensures { Executed self.old (command_of [] change) (change_outcome (changed_view A.heard result)) self.new }
@@ -122,25 +125,28 @@ impl<L: LinkStore, A: Adapter> Repository<L, A> {
         if let Some(refused) = attribute_refusal(&model, end, &value) {
             return Brief::Unheard(Err(refused));
         }
-        match plan_set(self.alloc, &model, end, value) {
-            Ok((edits, chain)) => {
-                let answer = Answer::Done;
-                let spots = Vec::new(self.alloc);
-                Brief::Replied(self.finish(
-                    Prepared {
-                        answer,
-                        edits,
-                        spots,
-                    },
-                    chain,
-                ))
-            }
-            Err(_) => Brief::Unheard(Err(Refused::Memory)),
-        }
+        let (edits, notices) = match plan_set(self.alloc, &model, end, value) {
+            Ok(plan) => plan,
+            Err(_) => return Brief::Unheard(Err(Refused::Memory)),
+        };
+        let round = match self.round(notices) {
+            Ok(round) => round,
+            Err(_) => return Brief::Unheard(Err(Refused::Memory)),
+        };
+        let answer = Answer::Done;
+        let spots = Vec::new(self.alloc);
+        Brief::Replied(self.finish(
+            Prepared {
+                answer,
+                edits,
+                spots,
+            },
+            round,
+        ))
     }
 
-    /// Whether an adapter may have to be notified of a change that edits only values: whether the change is at a feature of a node, and
-    /// some adapter is notified of changes at this node. A change that makes an object notifies no adapter.
+    /// Whether an adapter may have to be notified of a change that edits only values. This is so if the change is an act at a feature of a
+    /// node, and some adapter is notified of changes at this node. A change that makes an object notifies no adapter.
     fn hears_values(&self, change: &Change) -> bool
         requires values { edits_values_alone self.now.model.metamodel change.now ≡ true }
         ensures { result ≡ false → IsUnheard (reads self.now).above (chain (reads self.now) change.now) self.now.adapters }
@@ -158,9 +164,10 @@ impl<L: LinkStore, A: Adapter> Repository<L, A> {
         self.adapters.len() > 0
     }
 
-    /// Carries out a change that is not refused early, from its plan to its reply. In `is_heard` the caller passes whether an adapter may
-    /// have to be notified; if not, no notification is made. If the change loads a document, the call does what `load` does with any text
-    /// that is read as this document. The function is never inlined: else its callers would zero the stack slots of all kinds of edits.
+    /// Carries out a change that is not refused before planning, from its plan to its reply. In `is_heard` the caller passes whether an
+    /// adapter may have to be notified; if not, no notification is made. If the change loads a document, the outcome is that of `load` with
+    /// a text that is read as this document, whichever text it is. The function is never inlined: otherwise each caller would zero the
+    /// stack slots of all kinds of edits.
     #[inline(never)]
     pub(super) fn carry_out<E: Planned>(
         &mut self,
@@ -173,7 +180,7 @@ impl<L: LinkStore, A: Adapter> Repository<L, A> {
         requires heard { is_heard ≡ false → IsUnheard (reads self.old).above (chain (reads self.old) change) self.old.adapters }
         ensures { (text : List ℕ) → IsProper (reads self.old) text change → Executed self.old (command_of text change) (change_outcome (changed_view A.heard result)) self.new }
     {
-        let mut chain = Chain::new(self.alloc);
+        let mut chain = Chain::none(self.alloc);
         let model = self.model();
         let prepared = match E::prepare(
             self.alloc,
@@ -190,6 +197,10 @@ impl<L: LinkStore, A: Adapter> Repository<L, A> {
             let done = self.edit(prepared.edits);
             return replied(self.alloc, done, prepared.answer);
         }
-        self.finish(prepared, chain)
+        let round = match self.round(chain) {
+            Ok(round) => round,
+            Err(_) => return Err(Refused::Memory),
+        };
+        self.finish(prepared, round)
     }
 }

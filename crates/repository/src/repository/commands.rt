@@ -27,7 +27,7 @@ impl<L: LinkStore, A: Adapter> Repository<L, A> {
     }
 
     /// Does what `execute` does, for a command of any kind. This is a function of its own, so that the stack frame of `execute` stays
-    /// small: the frame here has a part for each kind of command, and is zeroed at each call.
+    /// small: the frame of this function has a part for each kind of command, and is zeroed at each call.
     #[inline(never)]
     fn execute_other(&mut self, command: Command<A>) -> Result<Reply<A>, Failure<A>>
         ensures { Executed self.old (command_view A.heard command) (outcome_view A.heard result) self.new }
@@ -56,7 +56,8 @@ impl<L: LinkStore, A: Adapter> Repository<L, A> {
     }
 
     /// Changes the values of a feature of a node, as the call for the act does: `e_set`, `e_unset`, `add`, `remove`, `remove_value`,
-    /// `move_to` or `resolve`. Refused as that call is.
+    /// `move_to` or `resolve`. Refused as that call is. A resolve at a resource, for which there is no call, is always refused.
+    #[inline(always)]
     pub fn act(&mut self, end: End, act: Act) -> Result<Reply<A>, Refused>
         ensures { Executed self.old (At end act) (change_outcome (changed_view A.heard result)) self.new }
     {
@@ -67,8 +68,8 @@ impl<L: LinkStore, A: Adapter> Repository<L, A> {
         }
     }
 
-    /// Answers a read, as the call for the read does: `e_get`, `e_is_set`, `e_class`, `e_container`, `e_resource`, `validate`, `fragment`,
-    /// `e_contents`, `snapshot`, `save`, `object_at`, `adapter_told` or `adapter_kept`. Refused as that call is.
+    /// The answer of a read, as the call for the read returns it: `e_get`, `e_is_set`, `e_class`, `e_container`, `e_resource`, `validate`,
+    /// `fragment`, `e_contents`, `snapshot`, `save`, `object_at`, `adapter_told` or `adapter_kept`. Refused as that call is.
     pub fn read(&self, read: Read) -> Result<Answer, Refused>
         ensures { Executed self.now (command.Read read) (answered_outcome result) self.now }
     {
@@ -84,7 +85,7 @@ impl<L: LinkStore, A: Adapter> Repository<L, A> {
         }
     }
 
-    /// The part of `read` that asks about a feature of a node.
+    /// The part of `read` for questions about a feature of a node.
     fn read_end(&self, end: End, read: EndRead) -> Result<Answer, Refused>
         ensures { Executed self.now (command.Read (asks.At end read)) (answered_outcome result) self.now }
     {
@@ -94,7 +95,7 @@ impl<L: LinkStore, A: Adapter> Repository<L, A> {
         }
     }
 
-    /// The part of `read` that asks about an object.
+    /// The part of `read` for questions about an object.
     fn read_object(&self, object: ObjectNo, read: ObjectRead) -> Result<Answer, Refused>
         ensures { Executed self.now (command.Read (asks.Of object read)) (answered_outcome result) self.now }
     {
@@ -107,8 +108,8 @@ impl<L: LinkStore, A: Adapter> Repository<L, A> {
         }
     }
 
-    /// Does commands one after another, and goes on after a refused command. If there is no memory for the outcomes, no command is done,
-    /// and the commands are given back.
+    /// Executes commands one after another, and goes on after a refused command. Returns the outcome of each command, in order. If there is
+    /// no memory for the list of outcomes, no command is executed, and the commands are given back.
     pub fn run_all(
         &mut self,
         commands: Vec<Command<A>>,

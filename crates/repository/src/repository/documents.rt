@@ -23,7 +23,7 @@ use web_uris::split_address;
 
 impl<L: LinkStore, A: Adapter> Repository<L, A> {
     /// The fragment of an object in its resource (EMF: Resource.getURIFragment): the path from a root to the object, such as `//@books.0`.
-    /// The root's position is left out if the resource has one root.
+    /// The root's position is left out if the resource has only one root.
     ///
     /// Refused, the first that applies: `NoObject` if no live object has the number, `Dangling` if the object is in no resource, `Memory`.
     #[tactic(auto, using(crate::proofs::DocumentLemmas::fragment_read))]
@@ -41,7 +41,7 @@ impl<L: LinkStore, A: Adapter> Repository<L, A> {
         }
     }
 
-    /// The fragment of an object, as it is remembered or computed; `None` if the object is in no resource.
+    /// The fragment of an object: the remembered one, or else a computed one; `None` if the object is in no resource.
     fn fragment_of(&self, object: ObjectNo) -> Result<Option<Text>, AllocError>
         ensures { IfOk result (λ t. t ≡ fragment_in (reads self.now) object) }
     {
@@ -55,8 +55,8 @@ impl<L: LinkStore, A: Adapter> Repository<L, A> {
     }
 
     /// The fragment of an object, as `fragment` returns it. The fragment is then remembered, if there is memory for it. At most 1,024
-    /// fragments are remembered: before one more is remembered, all are forgotten. They are also forgotten when a change edits a containing
-    /// link. Refused as `fragment` is: with `NoObject`, `Dangling` or `Memory`.
+    /// fragments are remembered. If there are 1,024, all are forgotten before one more is remembered. All are also forgotten when a change
+    /// edits a containing link. Refused as `fragment` is: with `NoObject`, `Dangling` or `Memory`.
     pub fn remembered_fragment(&mut self, object: ObjectNo) -> Result<Text, Refused>
         ensures { Executed self.old (commands.fragment object) (read_outcome answer.Fragment result) self.new }
     {
@@ -76,7 +76,7 @@ impl<L: LinkStore, A: Adapter> Repository<L, A> {
     }
 
     /// The object at an address, which is the URI of a resource, `#` and a fragment (EMF: ResourceSet.getEObject, without loading); `None`
-    /// if no resource has the URI, or no object is at that address.
+    /// if no resource has the URI, or no object is at the fragment. The URI is compared byte by byte, and is not normalised.
     ///
     /// Refused, the first that applies: `TextLength` above 65,535 bytes, `BadUri` if the text has no `#`, `Memory`.
     #[tactic(auto, using(crate::proofs::DocumentLemmas::object_found))]
@@ -93,15 +93,16 @@ impl<L: LinkStore, A: Adapter> Repository<L, A> {
         Ok(object)
     }
 
-    /// The document of a resource (EMF: Resource.save), as JSON without spaces: the roots of the resource with all objects that they
-    /// contain. For each object the document has the features that are set, but no container reference.
+    /// The document of a resource (EMF: Resource.save), as JSON without spaces between the tokens: the roots of the resource with all
+    /// objects below them. For each object the document has the features that are set, but no container reference.
     ///
-    /// Refused, the first that applies: `NoResource`, `Dangling` if an object that is referred to is in no resource, `TooDeep` if objects
-    /// are nested more than 40 deep, `Memory`.
+    /// Refused, the first that applies: `NoResource`, `Dangling` if an object of the resource refers to an object in no resource, `TooDeep`
+    /// if an object is below level 40 (the roots are at level 1), `Memory`.
     #[tactic(auto, using(crate::proofs::QuietLemmas::save_done))]
     pub fn save(&self, resource: ResourceNo) -> Result<Text, Refused>
         ensures executed { Executed self.now (commands.save resource) (read_outcome answer.Document result) self.now }
-        // The text is read back as the document; the laws of reloading have this as a premise.
+        // If the document is not too deep for the reader of JSON, the text is read back as the document. The laws of reloading have this as
+        // a premise.
         ensures reads { IfOk result (λ t. IsReadAs (reads self.now) resource t) }
         ensures utf8 { IfOk result (λ t. is_utf8 t ≡ true) }
     {

@@ -1,5 +1,8 @@
 //! How changes end: memory and capacity are reserved, the edits are made, and the adapters are notified.
-ghost use Rattle.std.specs.Prelude.{◌≡◌, ℕ, List, []};
+ghost use Rattle.std.specs.Prelude.{◌≡◌, ℕ, List, [], IfOk};
+ghost use Rattle.notice_chain.specs.declared.notice.Notice.{Notice};
+ghost use Rattle.adapter_list.specs.Rounds.{round_of};
+ghost use Rattle.repository.specs.State.{reads};
 ghost use Rattle.handshake.specs.declared.change.Change.{Change};
 ghost use Rattle.repository.specs.Prepared.{IsReady};
 ghost use Rattle.repository.specs.Run.{Executed, change_outcome, read_outcome};
@@ -10,14 +13,15 @@ use super::Repository;
 use crate::edits::Edits;
 use crate::prepared::Prepared;
 use crate::reply::Reply;
-use adapter_list::Leaving;
+use adapter_list::{Leaving, Round};
 use adapters::Adapter;
 use links::LinkStore;
 use mm_types::{Refused, Seq};
 use notice_chain::Chain;
+use std::alloc::AllocError;
 
 impl<L: LinkStore, A: Adapter> Repository<L, A> {
-    /// Makes the edits of a change that is ready, notifies no adapter, and takes no target away. Fails only if memory is refused.
+    /// Makes the edits of a change that is ready. The change must notify no adapter and take no target away. Refused only with `Memory`.
     #[inline(always)]
     pub(super) fn edit<E: Edits>(&mut self, edits: E) -> Result<(), Refused>
         requires ready { (text : List ℕ) × (change : Change) × (answer : Answer) × IsReady self.old text change answer [] (E.edits_of_links edits) (E.edits_of_values edits) [] }
@@ -35,17 +39,28 @@ impl<L: LinkStore, A: Adapter> Repository<L, A> {
         Ok(())
     }
 
-    /// Makes a change that is ready: reserves memory for the edits and capacity at the adapters, makes the edits, and notifies the adapters
-    /// of the notifications in `chain`. If the change edits only values, the edits take memory while they are made, and can still be
-    /// refused. After the edits are made, nothing can be refused.
+    /// The round of the chain of a change. The present links decide which adapters get a notification, so this function has to be called
+    /// before the change is made. Fails only if memory is refused.
+    #[inline(always)]
+    pub(super) fn round(&mut self, chain: Chain) -> Result<Round, AllocError>
+        ensures kept { self.new ≡ self.old }
+        ensures round { IfOk result (λ r. r ≡ round_of (reads self.old).above chain self.old.adapters) }
+    {
+        self.adapters.round(&self.store, chain, &mut self.hearers)
+    }
+
+    /// Makes a change that is ready: reserves memory for the edits and capacity at the adapters, makes the edits, delivers `round`, the
+    /// round of the notifications of the change, and takes away the targets in `prepared.spots`. Refused with `AdapterFull` or `Memory`.
+    /// The edits of a `ValuePlan` take memory while they are made, and can still be refused then. After the edits are made, nothing can be
+    /// refused.
     #[inline(always)]
     pub(super) fn finish<E: Edits>(
         &mut self,
         prepared: Prepared<E>,
-        chain: Chain,
+        round: Round,
     ) -> Result<Reply<A>, Refused>
-        requires ready { (text : List ℕ) × (change : Change) × IsReady self.old text change prepared.answer prepared.spots.items (E.edits_of_links prepared.edits) (E.edits_of_values prepared.edits) chain }
-        ensures { (text : List ℕ) (change : Change) → IsReady self.old text change prepared.answer prepared.spots.items (E.edits_of_links prepared.edits) (E.edits_of_values prepared.edits) chain → Executed self.old (command_of text change) (change_outcome (changed_view A.heard result)) self.new }
+        requires ready { (text : List ℕ) × (change : Change) × (ns : List Notice) × (round ≡ round_of (reads self.old).above ns self.old.adapters) × IsReady self.old text change prepared.answer prepared.spots.items (E.edits_of_links prepared.edits) (E.edits_of_values prepared.edits) ns }
+        ensures { (text : List ℕ) (change : Change) (ns : List Notice) → round ≡ round_of (reads self.old).above ns self.old.adapters → IsReady self.old text change prepared.answer prepared.spots.items (E.edits_of_links prepared.edits) (E.edits_of_values prepared.edits) ns → Executed self.old (command_of text change) (change_outcome (changed_view A.heard result)) self.new }
     {
         let Prepared {
             answer,
@@ -56,10 +71,6 @@ impl<L: LinkStore, A: Adapter> Repository<L, A> {
             Ok(()) => {}
             Err(_) => return Err(Refused::Memory),
         }
-        let round = match self.adapters.round(&self.store, chain, &mut self.hearers) {
-            Ok(round) => round,
-            Err(_) => return Err(Refused::Memory),
-        };
         let leaving = match Leaving::with_room(self.alloc, spots, round.told_len()) {
             Ok(leaving) => leaving,
             Err(_) => return Err(Refused::Memory),

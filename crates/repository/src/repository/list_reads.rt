@@ -1,4 +1,4 @@
-//! Reads of lists that copy none of their values.
+//! The length of a list, and the value at an index of a list, without a copy of any value.
 ghost use Rattle.std.specs.Prelude.{◌≡◌, Err, IfErr, IfOk, MatchOption, Ok};
 ghost use Rattle.models.specs.Found.{found_value};
 ghost use Rattle.models.specs.Reading.{at_end};
@@ -25,7 +25,7 @@ impl<L: LinkStore, A: Adapter> Repository<L, A> {
         }
     }
 
-    /// The value at an index of a list (EMF: EList.get), borrowed from where it is kept. Takes no memory.
+    /// The value at an index of a list (EMF: EList.get), borrowed from the repository and not copied. Takes no memory.
     ///
     /// Refused, the first that applies: `NoObject`, `NoResource`, `NoFeature`, `NotMany` if the feature is single, `Index` if no value is
     /// at the index.
@@ -48,7 +48,8 @@ impl<L: LinkStore, A: Adapter> Repository<L, A> {
         }
     }
 
-    /// Why there is no list at an end: the node doesn't exist, it doesn't have the feature, or the feature is single.
+    /// Why there is no list at an end: the node doesn't exist, the node doesn't have the feature, or the feature is single. `None` if there
+    /// is a list.
     fn list_refusal(&self, end: End) -> Option<Refused>
         ensures { MatchOption result (l.list_at (reads self.now) end ≡ Ok ((reads self.now).values end)) (λ r. l.list_at (reads self.now) end ≡ Err r) }
     {

@@ -16,13 +16,13 @@ impl<L: LinkStore, A: Adapter> Repository<L, A> {
     /// the opposite ends change too. Links that the new link displaces are cut at both ends, and an object that is put into a container
     /// leaves its former container. Returns whether the list changed: if a unique list has the value already, adding it without an index
     /// changes nothing and notifies no adapter. Otherwise notifies the adapters at each end that changes, and the deep adapters above that
-    /// end: of the losses of displaced links, of the gain at the opposite end, and last of ADD at the list.
+    /// end: first at the ends that lose a link and gain nothing, then at the opposite end that gains the link, and last of ADD at the list.
     ///
     /// Refused, the first that applies: `NoObject` if the node or the value is an object that does not live, `NoResource`, `NoFeature`,
-    /// `NotMany` if the feature is single, `WrongType`, `TextLength` above 65,535 bytes, `Index` above the length, `Duplicate` if a unique
-    /// list already has the value that is added at an index, `Bound` if the list or the opposite list has to gain a value and has as many
-    /// values as its upper bound, `Recursive` if an object would contain itself, directly or not, `Limit` if one of the two lists has to
-    /// gain a value and has 1,000,000 values, `AdapterFull`, `Memory`.
+    /// `NotMany` if the feature is single, `WrongType`, `TextLength` above 65,535 bytes, `Index` if the index is above the length of the
+    /// list, `Duplicate` if a unique list already has the value that is added at an index, `Bound` if the list or the opposite list has to
+    /// gain a value and has as many values as its upper bound, `Recursive` if an object would contain itself, directly or not, `Limit` if
+    /// one of the two lists has to gain a value and has 1,000,000 values, `AdapterFull`, `Memory`.
     pub fn add(
         &mut self,
         node: Node,
@@ -38,9 +38,10 @@ impl<L: LinkStore, A: Adapter> Repository<L, A> {
         }
     }
 
-    /// Takes the value at an index out of a list, and returns it (EMF: EList.remove). A link is cut at both ends. The adapters at the
-    /// opposite end, if there is one, are notified first, of SET to null or of REMOVE. Then the adapters at the list are notified of
-    /// REMOVE. At each end, the deep adapters above it are notified too.
+    /// Takes the value at an index out of a list, and returns the value (EMF: EList.remove). If the list is of a reference, the link of the
+    /// value is cut at both ends. The adapters at the opposite end of the link, if there is one, are notified first: of SET to null if that
+    /// end is single, else of REMOVE. Then the adapters at the list are notified of REMOVE. The deep adapters above each end are notified
+    /// too.
     ///
     /// Refused, the first that applies: `NoObject`, `NoResource`, `NoFeature`, `NotMany`, `Index` if no value is at the index,
     /// `AdapterFull`, `Memory`.
@@ -56,9 +57,9 @@ impl<L: LinkStore, A: Adapter> Repository<L, A> {
     }
 
     /// Takes the first occurrence of a value out of a list, and returns whether there was one (EMF: EList.remove). If there was none,
-    /// nothing changes and no adapter is notified. Otherwise the adapters at the opposite end, if there is one, are notified first, of SET
-    /// to null or of REMOVE. Then the adapters at the list are notified of REMOVE. At each end, the deep adapters above it are notified
-    /// too.
+    /// nothing changes and no adapter is notified. Otherwise, if the list is of a reference, the link of the value is cut at both ends. The
+    /// adapters at the opposite end of the link, if there is one, are notified first: of SET to null if that end is single, else of REMOVE.
+    /// Then the adapters at the list are notified of REMOVE. The deep adapters above each end are notified too.
     ///
     /// Refused, the first that applies: `NoObject` if the node or the value is an object that does not live, `NoResource`, `NoFeature`,
     /// `NotMany`, `WrongType`, `TextLength`, `AdapterFull`, `Memory`.
@@ -77,8 +78,8 @@ impl<L: LinkStore, A: Adapter> Repository<L, A> {
     /// The adapters at the list and the deep adapters above it are notified of MOVE, even if both indexes are the same. The opposite ends
     /// stay as they are.
     ///
-    /// Refused, the first that applies: `NoObject`, `NoResource`, `NoFeature`, `NotMany`, `Index` if one of the two indexes is past the
-    /// last value, `AdapterFull`, `Memory`.
+    /// Refused, the first that applies: `NoObject`, `NoResource`, `NoFeature`, `NotMany`, `Index` if `to` or `from` is past the last value,
+    /// `AdapterFull`, `Memory`.
     pub fn move_to(
         &mut self,
         node: Node,

@@ -21,14 +21,15 @@ use models::{ModelRef, contents_end};
 use resource_docs::{Doc, read_doc, read_doc_text};
 
 impl<L: LinkStore, A: Adapter> Repository<L, A> {
-    /// Loads a document, `bytes` as JSON, into an empty resource (EMF: Resource.load): all objects of the document with their values, links
-    /// and proxies, or none. The objects get the next numbers, root by root, each object before its contents. The contents of an object are
-    /// in the order of all features of its class, and then by position. At both ends of a pair of opposite references, the links have the
-    /// order that the document gives. Returns how many objects were made. The adapters at the resource are notified of one ADD on
-    /// `contents` for each root.
+    /// Loads a document into an empty resource (EMF: Resource.load). `bytes` has the document as JSON. The call makes all objects of the
+    /// document, with their values, links and proxies, or it makes nothing. The objects get the next numbers, root by root; each object is
+    /// directly followed by all objects below it. The contents of an object come by feature, in the order of all features of its class, and
+    /// then by position. At both ends of a pair of opposite references, the links have the order that the document gives. Returns how many
+    /// objects were made. The adapters at the resource are notified of one ADD on `contents` for each root.
     ///
-    /// Refused, the first that applies: `NoResource`; `Limit` if the document has no fault and more objects than can be made; `NotEmpty` if
-    /// the resource has roots; `Document` with the cause for which the document can't be read; `AdapterFull`, `Memory`.
+    /// Refused, the first that applies: `NoResource`; `Limit` if the document has no fault, and more than 1,000,000 objects would then have
+    /// been made in all; `NotEmpty` if the resource has roots; `Document` with the cause for which the document can't be read;
+    /// `AdapterFull`, `Memory`.
     pub fn load(&mut self, resource: ResourceNo, bytes: &[u8]) -> Result<Reply<A>, Refused>
         ensures { Executed self.old (Load resource bytes.now) (change_outcome (changed_view A.heard result)) self.new }
     {
@@ -40,7 +41,7 @@ impl<L: LinkStore, A: Adapter> Repository<L, A> {
         self.load_read(resource, read)
     }
 
-    /// Loads the document of a text as `load` does, and is refused as `load` is. The text is not tested as UTF-8 again.
+    /// Loads the document in a text as `load` does, and is refused as `load` is. `text` is UTF-8 by its type, so this is not tested.
     pub fn load_text(&mut self, resource: ResourceNo, text: &str) -> Result<Reply<A>, Refused>
         ensures { Executed self.old (Load resource text.now) (change_outcome (changed_view A.heard result)) self.new }
     {
@@ -52,7 +53,7 @@ impl<L: LinkStore, A: Adapter> Repository<L, A> {
         self.load_read(resource, read)
     }
 
-    /// Loads a document that was read. `read` is the document, or the refusal if it can't be read.
+    /// Loads a document that was read, into a resource that exists. `read` is the document, or the refusal with which the reading ended.
     fn load_read(
         &mut self,
         resource: ResourceNo,
@@ -72,7 +73,7 @@ impl<L: LinkStore, A: Adapter> Repository<L, A> {
     }
 }
 
-/// The refusal of a load whose document has a fault: `NotEmpty` if the resource has roots, or else the fault.
+/// The refusal of a load whose document has a fault: `NotEmpty` if the resource has roots, or else `Document` with the fault.
 fn fault_refusal<L: LinkStore>(
     model: &ModelRef<L>,
     resource: ResourceNo,

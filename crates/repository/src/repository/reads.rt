@@ -22,8 +22,8 @@ use snapshots::Snapshot;
 use validation::short_features;
 
 impl<L: LinkStore, A: Adapter> Repository<L, A> {
-    /// What a feature of a node holds (EMF: EObject.eGet): for a single attribute the value that was set or the default; for a single
-    /// reference its object or its proxy, or null if it is empty; for a many-valued feature its list. A proxy is not resolved.
+    /// What a feature of a node holds (EMF: EObject.eGet): for a single attribute the value that was set, or else the default; for a single
+    /// reference its object or its proxy, or null if the reference is empty; for a many-valued feature its list. A proxy is not resolved.
     ///
     /// Refused, the first that applies: `NoObject`, `NoResource`, `NoFeature`, `Memory`.
     #[tactic(auto, using(crate::proofs::QuietLemmas::get_done))]
@@ -43,7 +43,8 @@ impl<L: LinkStore, A: Adapter> Repository<L, A> {
         Ok(FeatureValue::Many(values))
     }
 
-    /// The value that `e_get` returns for a single feature, borrowed from where it is kept; `None` stands for null. Takes no memory.
+    /// The value that `e_get` returns for a single feature, borrowed from the repository and not copied; `None` stands for null. Takes no
+    /// memory.
     ///
     /// Refused, the first that applies: `NoObject`, `NoResource`, `NoFeature`, `NotSingle` if the feature is many-valued.
     #[tactic(auto, using(crate::proofs::QuietLemmas::get_done))]
@@ -108,8 +109,8 @@ impl<L: LinkStore, A: Adapter> Repository<L, A> {
         Ok(holder_resource(model.store(), object))
     }
 
-    /// The objects that a node directly contains (EMF: EObject.eContents). The contents of an object are in the order of all features of
-    /// its class, and then by position. The contents of a resource are its roots, by position.
+    /// The objects that a node directly contains (EMF: EObject.eContents). The contents of an object come by feature, in the order of all
+    /// features of its class, and then by position. The contents of a resource are its roots, by position.
     ///
     /// Refused, the first that applies: `NoObject`, `NoResource`, `Memory`.
     #[tactic(auto, using(crate::proofs::QuietLemmas::contents_done))]
@@ -124,8 +125,8 @@ impl<L: LinkStore, A: Adapter> Repository<L, A> {
         Ok(Seq::from_vec(objects))
     }
 
-    /// The state of a node and of each node below it: the class, the values of each feature, and the set flag of each unsettable feature.
-    /// Takes time in proportion to the size of its result, apart from sorting the objects.
+    /// The state of a node and of each node below it. The state has the class of an object, the values of each feature, and the set flag of
+    /// each unsettable feature. The call takes time in proportion to the size of the snapshot, apart from sorting the objects.
     ///
     /// Refused, the first that applies: `NoObject`, `NoResource`, `Memory`.
     #[tactic(auto, using(crate::proofs::QuietLemmas::snapshot_done))]

@@ -12,16 +12,16 @@ use links::LinkStore;
 use mm_types::{End, FeatureNo, Node, ObjectNo, Refused};
 
 impl<L: LinkStore, A: Adapter> Repository<L, A> {
-    /// Replaces the proxy at an index of a reference by the object at the proxy's address (EMF: EcoreUtil.resolve). The index of a single
-    /// reference is 0. If the reference has an opposite, the referring object replaces a proxy at the opposite end too: the first proxy
-    /// there that leads back to the referring object. Returns the object at the proxy's address. The adapters are notified of RESOLVE,
-    /// first at the opposite end and then at the reference.
+    /// Replaces the proxy at an index of a reference by the object at the proxy's address (EMF: EcoreUtil.resolve). At a single reference
+    /// the index is 0. If the reference has an opposite, the referring object (`object`) replaces a proxy at the opposite end too: the
+    /// first proxy there that leads back to the referring object. Returns the object at the proxy's address. The adapters at the opposite
+    /// end, if there is one, are notified of RESOLVE first, and then the adapters at the reference.
     ///
     /// Refused, the first that applies: `NoObject`, `NoFeature`, `WrongType` if the feature is an attribute or doesn't take the object at
-    /// the proxy's address, `Index` if no value is at the index, `Duplicate` if the list has the object already, `NotProxy` if the value at
-    /// the index is an object, `Unloaded` if no resource has the URI in the proxy's text, `Unresolved` if no object is at the proxy's
-    /// address, `Unmatched` if the reference has an opposite but no proxy at the opposite end leads back to the referring object,
-    /// `AdapterFull`, `Memory`.
+    /// the proxy's address, `Index` if no value is at the index, `Duplicate` if the reference has the object at the proxy's address
+    /// already, `NotProxy` if the value at the index is an object, `Unloaded` if no resource has the URI in the proxy's text, `Unresolved`
+    /// if no object is at the proxy's address, `Unmatched` if the reference has an opposite but no proxy at the opposite end leads back to
+    /// the referring object, `AdapterFull`, `Memory`.
     pub fn resolve(
         &mut self,
         object: ObjectNo,
@@ -35,12 +35,12 @@ impl<L: LinkStore, A: Adapter> Repository<L, A> {
     }
 
     /// Resolves all proxies, one after another (EMF: EcoreUtil.resolveAll). The proxies are ordered by the number of the referring object,
-    /// then by feature in the order of all features, then by index. Each proxy is resolved as `resolve` does it, in the state as it is
-    /// after the earlier resolves. A proxy is skipped if `resolve` would refuse it for a reason other than `AdapterFull` and `Memory`.
-    /// Returns how many proxies were resolved (two at the ends of one link count as one), and how many are left. The adapters are notified
-    /// of RESOLVE for each proxy that is resolved, first at the opposite end and then at the reference.
+    /// then by feature in the order of all features, then by index. Each proxy is resolved as by `resolve`, in the state after the earlier
+    /// resolves. A proxy is skipped if `resolve` would then be refused, for a reason other than `AdapterFull` and `Memory`. Returns how
+    /// many proxies were resolved (two at the ends of one link count as one), and how many are left. For each resolve the adapters at the
+    /// opposite end, if there is one, are notified of RESOLVE first, and then the adapters at the reference.
     ///
-    /// Refused, the first that applies: `AdapterFull`, `Memory`.
+    /// Refused, the first that applies: `AdapterFull`, `Memory`. In both cases no proxy is resolved.
     pub fn resolve_all(&mut self) -> Result<Reply<A>, Refused>
         ensures { Executed self.old ResolveAll (change_outcome (changed_view A.heard result)) self.new }
     {

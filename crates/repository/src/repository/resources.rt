@@ -14,12 +14,12 @@ use models::is_short_text;
 use web_uris::{UriFault, joined};
 
 impl<L: LinkStore, A: Adapter> Repository<L, A> {
-    /// Makes an empty resource (EMF: ResourceSet.createResource). The text is read as a URI of http or https. This URI, normalised as in
-    /// the URL Standard, is the URI of the resource. Notifies no adapter.
+    /// Makes an empty resource (EMF: ResourceSet.createResource). `text` is read as a URI of http or https. The resource gets this URI,
+    /// normalised as in the URL Standard. Notifies no adapter.
     ///
     /// Refused, the first that applies: `TextLength` if the text, or the URI that it gives, has more than 65,535 bytes, `Limit` if 100,000
     /// resources were made, `BadUri` if the text gives no URI of http or https, or a URI with a fragment, `ResourceExists` if a resource
-    /// has the URI, `Memory`.
+    /// has the URI already, `Memory`.
     pub fn create_resource(&mut self, text: &str) -> Result<Reply<A>, Refused>
         ensures { Executed self.old (CreateResource text.now) (change_outcome (changed_view A.heard result)) self.new }
     {

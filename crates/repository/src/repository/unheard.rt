@@ -1,7 +1,7 @@
-//! Calls that make no reply for the most frequent changes that notify no adapter: a new object, a set of an attribute, and a set or an
-//! addition that only puts one link. Most commands of a script are changes of these kinds, and a reply with lists of notified adapters
-//! takes longer to make than the change itself. Each public call here does the same as a call that always makes a reply, and its docstring
-//! names that call.
+//! Calls for the most frequent changes: a new object, a set of an attribute, and a set or an addition that only puts one link. Most
+//! commands of a script are changes of these kinds. If the change notifies no adapter, the call makes no reply, since a reply with lists of
+//! notified adapters takes longer to make than the change itself. Each public call here does the same as a call that always makes a reply,
+//! and the docstring of each names that call.
 ghost use Rattle.std.specs.Prelude.{◌≡◌, ◌&&◌, ◌||◌, [], None, false, true, MatchOption, is_some, ◌∷◌, OnOk, OnErr};
 ghost use Rattle.mm_types.specs.Shapes.{shape};
 ghost use Rattle.mm_values.specs.Room.{values_of};
@@ -50,8 +50,9 @@ impl<L: LinkStore, A: Adapter> Repository<L, A> {
         }
     }
 
-    /// Sets a single feature as `e_set` does. Gives `Replied` only in three cases: an adapter may be notified; the feature is a reference,
-    /// and planning refuses the set; the feature is a reference, and the set does anything other than putting one link.
+    /// Sets a single feature as `e_set` does. The result is `Replied` only in three cases: an adapter may have to be notified; or the
+    /// feature is a reference, and planning refuses the set; or the feature is a reference, and the set does anything other than putting
+    /// one link.
     #[inline(always)]
     pub fn set_brief(&mut self, node: Node, feature: FeatureNo, value: Value) -> Brief<A>
         ensures { Executed self.old (commands.set node feature value) (brief_outcome A.heard answer.Done result) self.new }
@@ -78,9 +79,9 @@ impl<L: LinkStore, A: Adapter> Repository<L, A> {
         }
     }
 
-    /// Adds a value to a list as `add` does. An addition to a reference gives `Unheard` if the addition is refused before planning, or if
-    /// it puts one link, displaces no other link and notifies no adapter; memory may be refused for this put. Any other addition gives
-    /// `Replied`. If `Unheard` has no refusal, the list has changed.
+    /// Adds a value to a list as `add` does. The result is `Unheard` for an addition to a reference in two cases: the addition is refused
+    /// before planning; or the addition puts one link, displaces no other link and notifies no adapter. In the second case the only
+    /// possible refusal is `Memory`. For any other addition the result is `Replied`. If `Unheard` has no refusal, the list has changed.
     #[inline(always)]
     pub fn add_brief(
         &mut self,
@@ -101,8 +102,8 @@ impl<L: LinkStore, A: Adapter> Repository<L, A> {
         Brief::Replied(self.change(Change::At(end, Act::Add(value, index))))
     }
 
-    /// Does an act at a reference. The act is no `Resolve`, and is not refused early. The function is never inlined into the code of a
-    /// change that notifies no adapter: that code would then zero the stack slots of a `Change`.
+    /// Does an act at a reference. The act must be no `Resolve`, and must not be refused before planning. The function is never inlined
+    /// into the code of a change that notifies no adapter: otherwise that code would zero the stack slots of a `Change`.
     #[inline(never)]
     fn displace(&mut self, end: End, act: Act) -> Brief<A>
         requires reference { (shape self.old.model.metamodel end.feature).is_reference ≡ true }
@@ -124,8 +125,8 @@ impl<L: LinkStore, A: Adapter> Repository<L, A> {
         self.adapters.is_heard(&self.store, node, &self.hearers)
     }
 
-    /// Whether an adapter is notified when a link is put. Adapters are notified at the link's end and, if the feature has an opposite, at
-    /// the object. Takes no memory.
+    /// Whether an adapter is notified when the link `put` is put in: at the node of `put.end` or, if the feature has an opposite, at the
+    /// object `put.object`. Takes no memory.
     #[inline(always)]
     fn is_put_heard(&self, put: NewLink) -> bool
         ensures { result ≡ is_put_heard self.now put }
@@ -134,7 +135,7 @@ impl<L: LinkStore, A: Adapter> Repository<L, A> {
             || (put.opposite.is_some() && self.is_heard(Node::Object(put.object)))
     }
 
-    /// Sets an attribute as `e_set` does. The caller knows that no adapter is notified.
+    /// Sets an attribute as `e_set` does. The caller has to know that no adapter is notified of changes at the node.
     #[inline(always)]
     pub(super) fn set_value(&mut self, end: End, value: Value) -> Result<(), Refused>
         requires attribute { (shape self.old.model.metamodel end.feature).is_reference ≡ false }

@@ -1,4 +1,4 @@
-//! What is printed of the features that a command returns.
+//! What is printed for the features that a command returns.
 ghost use Rattle.std.specs.Prelude.{◌≡◌, ◌++◌, OnOk};
 ghost use Rattle.script_output.specs.Printed.{features_text, spaced_features};
 

@@ -1,4 +1,4 @@
-//! What is printed of the list of a feature.
+//! What is printed for the values of a many-valued feature.
 ghost use Rattle.std.specs.Prelude.{◌≡◌, ◌++◌, OnOk};
 ghost use Rattle.script_output.specs.Printed.{feature_value_text, list_text, spaced_values};
 

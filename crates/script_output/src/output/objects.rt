@@ -1,4 +1,4 @@
-//! What is printed of the objects that a command returns.
+//! What is printed for the objects and resources that a command returns.
 ghost use Rattle.std.specs.Prelude.{◌≡◌, ◌++◌, OnOk};
 ghost use Rattle.script_output.specs.Printed.{holder_text, objects_text, spaced_objects};
 

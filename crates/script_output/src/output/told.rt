@@ -1,4 +1,4 @@
-//! What is printed of adapters: their notifications, and how many notifications they got and keep.
+//! What is printed about adapters: their notifications, and how many notifications they got and keep.
 ghost use Rattle.std.specs.Prelude.{◌≡◌, ◌++◌, ◌∷◌, [], OnOk};
 ghost use Rattle.script_lines.specs.declared.grammar.TheConstants.{NEWLINE};
 ghost use Rattle.script_output.specs.Notified.{change_text, counts_text, notice_text, end_text, released_text, report_text, seen_text, text_before, told_value_text, values_text};
@@ -37,7 +37,7 @@ impl Output {
         }
     }
 
-    /// Adds the old value of a notification. If its kind is REMOVING_ADAPTER, adds the removed adapter instead.
+    /// Adds the old value of a notification; for a notification of the kind REMOVING_ADAPTER, adds the removed adapter instead.
     fn told_before(&mut self, meta: &Meta, notice: &Notice) -> Result<(), AllocError>
         ensures ok { OnOk result (self.new ≡ self.old ++ text_before notice.now.kind (told_value_text meta.now notice.now notice.now.old_value)) }
     {

@@ -17,7 +17,7 @@ use script_answers::Turn;
 use std::alloc::AllocError;
 
 impl<L: LinkStore, A: Adapter> Interpreter<L, A> {
-    /// Reads how many values a list has, and returns how the read is counted. From then on `text` returns the number, or the refusal.
+    /// Reads how many values a list has, and returns how the read is counted. After this call `text` returns the number, or the refusal.
     ///
     /// Fails only if memory is refused for the text.
     pub fn list_len(&mut self, node: Node, feature: &str) -> Result<Turn, AllocError>
@@ -39,8 +39,8 @@ impl<L: LinkStore, A: Adapter> Interpreter<L, A> {
         }
     }
 
-    /// Reads the value at an index of a list, and returns how the read is counted. From then on `text` returns the value, printed as `get`
-    /// prints the value of a single feature. If the read is refused, `text` returns the refusal.
+    /// Reads the value at an index of a list, and returns how the read is counted. After this call `text` returns the value, printed as
+    /// `get` prints the value of a single feature. If the read is refused, `text` returns the refusal.
     ///
     /// Fails only if memory is refused for the text.
     pub fn list_value(&mut self, node: Node, feature: &str, index: u32) -> Result<Turn, AllocError>
@@ -67,7 +67,7 @@ impl<L: LinkStore, A: Adapter> Interpreter<L, A> {
     }
 
     /// Loads a document into a resource, as a line with `load` does. The document may have any length, and newlines. Returns how the load
-    /// is counted. From then on `text` returns the output of the load.
+    /// is counted. After this call `text` returns the output of the load.
     ///
     /// Fails only if memory is refused for the text; then no contract determines the state of the interpreter.
     pub fn load(&mut self, resource: ResourceNo, document: &[u8]) -> Result<Turn, AllocError>

@@ -14,8 +14,8 @@ returns g c =
     let told = map (notice_at r) (flat_map told_by js) in
     let counts = ap (λ (n : ℕ). Counts (record { done = length js; left = n })) c.left.ensures in
     all-planned c.args.is_heard c.args.model.now _ c.lemma_is_legal.ensures c.args.progress.now c.requires.done c.args.leads.now c.requires.all js c.as_slice-joints.ensures.value counts
-    (c.from_vec.ensures ∙ c.in_ok-edits.ensures) c.none.ensures
+    c.in_ok-edits.ensures c.none.ensures
     (elim c.if-is_heard.branch [
-      | then-is_heard+in_ok-resolved_notices w ↦ w.chain-is ∙ w.in_ok-resolved_notices.ensures ∙ ap (λ ns. ns ++ told) c.new-chain.ensures ∙ sym (ap (λ (b : Bool). if b then told else []) w.if-is_heard.true)
-      | else-is_heard w ↦ w.chain-is ∙ c.new-chain.ensures ∙ sym (ap (λ (b : Bool). if b then told else []) w.if-is_heard.false)
+      | then-is_heard+in_ok-resolved_notices w ↦ w.chain-is ∙ w.in_ok-resolved_notices.ensures ∙ ap (λ ns. ns ++ told) c.none-chain.ensures ∙ sym (ap (λ (b : Bool). if b then told else []) w.if-is_heard.true)
+      | else-is_heard w ↦ w.chain-is ∙ c.none-chain.ensures ∙ sym (ap (λ (b : Bool). if b then told else []) w.if-is_heard.false)
     ])

@@ -28,7 +28,7 @@ pushed r j e is old mid none ts us v empty found here both cut =
 
 pub returns : goal.returns
 returns g c =
-    subst (λ (xs : List Edit). OnOk c.push_joining.result (c.push_joining.new.edits.items ≡ xs))
-    (pushed (reading c.args.model.now) c.args.joint c.far_end-end.result c.far_end-end.ensures c.args.edits.now.items c.push_cuts.new.edits.items c.new-link_ends.result.items c.push_link_end.new.link_ends.items c.add_counterpart.new.link_ends.items
+    subst (λ (xs : List Edit). OnOk c.push_joining.result (c.push_joining.new.edits ≡ xs))
+    (pushed (reading c.args.model.now) c.args.joint c.far_end-end.result c.far_end-end.ensures c.args.edits.now c.push_cuts.new.edits c.new-link_ends.result.items c.push_link_end.new.link_ends.items c.add_counterpart.new.link_ends.items
     _ c.new-link_ends.ensures.items c.value_in.ensures c.in_ok-push_link_end.ensures c.in_ok-add_counterpart.ensures c.in_ok-push_cuts.ensures)
     c.push_joining.ensures

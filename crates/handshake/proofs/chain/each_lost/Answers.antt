@@ -11,5 +11,5 @@ loop-loss-preserved g c =
     let steps = c.in-Some.ensures.steps.0 in (
       tt,
       tt,
-      made-step (lost_notice r) _ _ c.in-Some.loss _ _ _ steps (c.in_ok-push.ensures.ok ∙ ap (λ (n : Notice). c.loop-loss.chain ++ n ∷ []) c.lost_notice.ensures) c.loop-loss.invariant.2,
+      made-step (lost_notice r) _ _ c.in-Some.loss _ _ _ steps (c.in_ok-push.ensures ∙ ap (λ (n : Notice). c.loop-loss.chain ++ n ∷ []) c.lost_notice.ensures) c.loop-loss.invariant.2,
     )

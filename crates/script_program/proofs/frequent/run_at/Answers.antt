@@ -9,16 +9,13 @@ pub returns-in-IsSet-clause-ok : goal.returns-in-IsSet-clause-ok
 returns-in-IsSet-clause-ok g c = rw (ap (act_line c.args.object c.args.name) c.in-IsSet.is) (rw c.as_str-name.ensures at c.run_is_set.ensures.ok)
 
 pub returns-in-Set-clause-ok : goal.returns-in-Set-clause-ok
-returns-in-Set-clause-ok g c = rw (ap (act_line c.args.object c.args.name) c.in-Set.is) (rw (c.as_str-name.ensures, c.as_str.ensures) at c.run_set_line.ensures.ok)
+returns-in-Set-clause-ok g c = rw (ap (act_line c.args.object c.args.name) c.in-Set.is) (rw (c.as_str-name.ensures, c.as_str.ensures) at c.run_set.ensures.ok)
 
 pub returns-in-Add-clause-ok : goal.returns-in-Add-clause-ok
-returns-in-Add-clause-ok g c = rw (ap (act_line c.args.object c.args.name) c.in-Add.is) (rw (c.as_str-name.ensures, c.as_str-in-Add.ensures) at c.run_add_line.ensures.ok)
-
-pub returns-in-AddAt-clause-ok : goal.returns-in-AddAt-clause-ok
-returns-in-AddAt-clause-ok g c = rw (ap (act_line c.args.object c.args.name) c.in-AddAt.is) (rw (c.as_str-name.ensures, c.as_str-in-AddAt.ensures) at c.run_add_at_line.ensures.ok)
+returns-in-Add-clause-ok g c = rw (ap (act_line c.args.object c.args.name) c.in-Add.is) (rw (c.as_str-name.ensures, c.as_str-word.ensures) at c.run_add.ensures.ok)
 
 pub returns-in-RemoveValue-clause-ok : goal.returns-in-RemoveValue-clause-ok
-returns-in-RemoveValue-clause-ok g c = rw (ap (act_line c.args.object c.args.name) c.in-RemoveValue.is) (rw (c.as_str-name.ensures, c.as_str-in-RemoveValue.ensures) at c.run_remove_value_line.ensures.ok)
+returns-in-RemoveValue-clause-ok g c = rw (ap (act_line c.args.object c.args.name) c.in-RemoveValue.is) (rw (c.as_str-name.ensures, c.as_str-in-RemoveValue.ensures) at c.run_remove_value.ensures.ok)
 
 pub returns-in-Bare-clause-ok : goal.returns-in-Bare-clause-ok
 returns-in-Bare-clause-ok g c = rw (ap (act_line c.args.object c.args.name) c.in-Bare.is) (rw c.as_str-name.ensures at c.run_bare_act.ensures.ok)
@@ -32,16 +29,13 @@ pub returns-in-IsSet-clause-left : goal.returns-in-IsSet-clause-left
 returns-in-IsSet-clause-left g c = rw (ap (act_line c.args.object c.args.name) c.in-IsSet.is) (rw c.as_str-name.ensures at c.run_is_set.ensures.left)
 
 pub returns-in-Set-clause-left : goal.returns-in-Set-clause-left
-returns-in-Set-clause-left g c = rw (ap (act_line c.args.object c.args.name) c.in-Set.is) (rw (c.as_str-name.ensures, c.as_str.ensures) at c.run_set_line.ensures.left)
+returns-in-Set-clause-left g c = rw (ap (act_line c.args.object c.args.name) c.in-Set.is) (rw (c.as_str-name.ensures, c.as_str.ensures) at c.run_set.ensures.left)
 
 pub returns-in-Add-clause-left : goal.returns-in-Add-clause-left
-returns-in-Add-clause-left g c = rw (ap (act_line c.args.object c.args.name) c.in-Add.is) (rw (c.as_str-name.ensures, c.as_str-in-Add.ensures) at c.run_add_line.ensures.left)
-
-pub returns-in-AddAt-clause-left : goal.returns-in-AddAt-clause-left
-returns-in-AddAt-clause-left g c = rw (ap (act_line c.args.object c.args.name) c.in-AddAt.is) (rw (c.as_str-name.ensures, c.as_str-in-AddAt.ensures) at c.run_add_at_line.ensures.left)
+returns-in-Add-clause-left g c = rw (ap (act_line c.args.object c.args.name) c.in-Add.is) (rw (c.as_str-name.ensures, c.as_str-word.ensures) at c.run_add.ensures.left)
 
 pub returns-in-RemoveValue-clause-left : goal.returns-in-RemoveValue-clause-left
-returns-in-RemoveValue-clause-left g c = rw (ap (act_line c.args.object c.args.name) c.in-RemoveValue.is) (rw (c.as_str-name.ensures, c.as_str-in-RemoveValue.ensures) at c.run_remove_value_line.ensures.left)
+returns-in-RemoveValue-clause-left g c = rw (ap (act_line c.args.object c.args.name) c.in-RemoveValue.is) (rw (c.as_str-name.ensures, c.as_str-in-RemoveValue.ensures) at c.run_remove_value.ensures.left)
 
 pub returns-in-Bare-clause-left : goal.returns-in-Bare-clause-left
 returns-in-Bare-clause-left g c = rw (ap (act_line c.args.object c.args.name) c.in-Bare.is) (rw c.as_str-name.ensures at c.run_bare_act.ensures.left)

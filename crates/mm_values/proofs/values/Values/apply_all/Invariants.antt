@@ -9,4 +9,4 @@ invariant-loop-edit l =
     (goal.iterator-loop-edit).can_next l.edit-iterator ×
     (goal.iterator-loop-edit).is_finite l.edit-iterator ×
     HasRoom l.self (into_iter_items l.edit-iterator) ×
-    (values_after_edits (values_of l.self) (into_iter_items l.edit-iterator) ≡ values_after_edits (values_of l.fn.self) l.fn.edits)
+    (values_after_edits (values_of l.self) (into_iter_items l.edit-iterator) ≡ values_after_edits (values_of l.fn.self) l.fn.edits.items)

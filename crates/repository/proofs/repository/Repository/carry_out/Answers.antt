@@ -18,7 +18,8 @@ use Rattle.repository.specs.Run.{Executed}
 use Rattle.repository.specs.State.{State, reads}
 use Rattle.repository.specs.Views.{Outcome, command_of}
 use Rattle.repository.specs.declared.reply.Answer.{Answer}
-use Rattle.repository.proofs.PlanLemmas.{planned_err}
+use Rattle.repository.proofs.InsideLemmas.{round-here, seen}
+use Rattle.repository.proofs.PlanLemmas.{out_of_memory, planned_err}
 use Rattle.repository.proofs.ValueLemmas.{IsAnswerOf, ready-of}
 use Rattle.repository.proofs.repository.Repository.carry_out.Goals as goal
 
@@ -42,7 +43,7 @@ edit-done-requires g c =
     let quiet : c.prepare.new.chain ≡ [] = nothing-in c.prepare.new.chain (sym c.is_empty.ensures ∙ c.if-is_empty.true) in
     let none : p.spots.items ≡ [] = nothing-in p.spots.items (ap (λ (n : ℕ). n == 0) (sym p.spots.ok.0) ∙ sym c.is_empty-then-is_empty.ensures ∙ c.if-is_empty-2.true) in
     let text = c.requires.proper.0 in
-    record { ready = (text, c.args.change, p.answer, ready s c.args.self.now c.model-model.result text c.args.change p.answer [] (g.E.Edits.edits_of_links p.edits) (g.E.Edits.edits_of_values p.edits) [] c.args.is_heard c.self.view_is c.model-model.ensures c.requires.asked c.requires.proper.1 c.in-Ok.ensures.answer (sym none ∙ c.in-Ok.ensures.spots) (subst (λ (ns : List Notice). IsPlanned c.args.is_heard c.model-model.result c.args.change (g.E.Edits.edits_of_links p.edits) (g.E.Edits.edits_of_values p.edits) ns) quiet (c.in-Ok.ensures.planned c.new-chain.ensures)) c.requires.heard) }
+    record { ready = (text, c.args.change, p.answer, ready s c.args.self.now c.model-model.result text c.args.change p.answer [] (g.E.Edits.edits_of_links p.edits) (g.E.Edits.edits_of_values p.edits) [] c.args.is_heard c.self.view_is c.model-model.ensures c.requires.asked c.requires.proper.1 c.in-Ok.ensures.answer (sym none ∙ c.in-Ok.ensures.spots) (subst (λ (ns : List Notice). IsPlanned c.args.is_heard c.model-model.result c.args.change (g.E.Edits.edits_of_links p.edits) (g.E.Edits.edits_of_values p.edits) ns) quiet (c.in-Ok.ensures.planned c.none-chain.ensures)) c.requires.heard) }
 
 pub returns-then-is_empty-2 : goal.returns-then-is_empty-2
 returns-then-is_empty-2 g c = λ text own.
@@ -51,17 +52,22 @@ returns-then-is_empty-2 g c = λ text own.
     let quiet : c.prepare.new.chain ≡ [] = nothing-in c.prepare.new.chain (sym c.is_empty.ensures ∙ c.if-is_empty.true) in
     let none : p.spots.items ≡ [] = nothing-in p.spots.items (ap (λ (n : ℕ). n == 0) (sym p.spots.ok.0) ∙ sym c.is_empty-then-is_empty.ensures ∙ c.if-is_empty-2.true) in
     subst (λ (o : Outcome). Executed c.args.self.now (command_of text c.args.change) o c.edit-done.new.self) (sym (c.replied.ensures g.A.Adapter.heard))
-    (c.edit-done.ensures text c.args.change p.answer (ready s c.args.self.now c.model-model.result text c.args.change p.answer [] (g.E.Edits.edits_of_links p.edits) (g.E.Edits.edits_of_values p.edits) [] c.args.is_heard c.self.view_is c.model-model.ensures c.requires.asked own c.in-Ok.ensures.answer (sym none ∙ c.in-Ok.ensures.spots) (subst (λ (ns : List Notice). IsPlanned c.args.is_heard c.model-model.result c.args.change (g.E.Edits.edits_of_links p.edits) (g.E.Edits.edits_of_values p.edits) ns) quiet (c.in-Ok.ensures.planned c.new-chain.ensures)) c.requires.heard))
+    (c.edit-done.ensures text c.args.change p.answer (ready s c.args.self.now c.model-model.result text c.args.change p.answer [] (g.E.Edits.edits_of_links p.edits) (g.E.Edits.edits_of_values p.edits) [] c.args.is_heard c.self.view_is c.model-model.ensures c.requires.asked own c.in-Ok.ensures.answer (sym none ∙ c.in-Ok.ensures.spots) (subst (λ (ns : List Notice). IsPlanned c.args.is_heard c.model-model.result c.args.change (g.E.Edits.edits_of_links p.edits) (g.E.Edits.edits_of_values p.edits) ns) quiet (c.in-Ok.ensures.planned c.none-chain.ensures)) c.requires.heard))
+
+pub returns-in-Err-round : goal.returns-in-Err-round
+returns-in-Err-round g c = λ text own. rw (c.round.ensures.kept) (out_of_memory c.args.self.now text c.args.change own c.requires.asked)
 
 pub finish-requires : goal.finish-requires
 finish-requires g c =
     let s : State = state g.L.LinkStore.links c.self.inside in
     let p = c.in-Ok.prepared in
     let text = c.requires.proper.0 in
-    record { ready = (text, c.args.change, ready s c.args.self.now c.model-model.result text c.args.change p.answer p.spots.items (g.E.Edits.edits_of_links p.edits) (g.E.Edits.edits_of_values p.edits) c.prepare.new.chain c.args.is_heard c.self.view_is c.model-model.ensures c.requires.asked c.requires.proper.1 c.in-Ok.ensures.answer c.in-Ok.ensures.spots (c.in-Ok.ensures.planned c.new-chain.ensures) c.requires.heard) }
+    let kept = c.round.ensures.kept in
+    record { ready = (text, c.args.change, c.prepare.new.chain, round-here _ _ c.prepare.new.chain _ kept c.in-Ok-round.ensures.round, seen _ _ text c.args.change p.answer _ _ _ _ kept (ready s c.args.self.now c.model-model.result text c.args.change p.answer p.spots.items (g.E.Edits.edits_of_links p.edits) (g.E.Edits.edits_of_values p.edits) c.prepare.new.chain c.args.is_heard c.self.view_is c.model-model.ensures c.requires.asked c.requires.proper.1 c.in-Ok.ensures.answer c.in-Ok.ensures.spots (c.in-Ok.ensures.planned c.none-chain.ensures) c.requires.heard)) }
 
 pub returns : goal.returns
 returns g c = λ text own.
     let s : State = state g.L.LinkStore.links c.self.inside in
     let p = c.in-Ok.prepared in
-    c.finish.ensures text c.args.change (ready s c.args.self.now c.model-model.result text c.args.change p.answer p.spots.items (g.E.Edits.edits_of_links p.edits) (g.E.Edits.edits_of_values p.edits) c.prepare.new.chain c.args.is_heard c.self.view_is c.model-model.ensures c.requires.asked own c.in-Ok.ensures.answer c.in-Ok.ensures.spots (c.in-Ok.ensures.planned c.new-chain.ensures) c.requires.heard)
+    let kept = c.round.ensures.kept in
+    rw (← kept) (c.finish.ensures text c.args.change c.prepare.new.chain (round-here _ _ c.prepare.new.chain _ kept c.in-Ok-round.ensures.round) (seen _ _ text c.args.change p.answer _ _ _ _ kept (ready s c.args.self.now c.model-model.result text c.args.change p.answer p.spots.items (g.E.Edits.edits_of_links p.edits) (g.E.Edits.edits_of_values p.edits) c.prepare.new.chain c.args.is_heard c.self.view_is c.model-model.ensures c.requires.asked own c.in-Ok.ensures.answer c.in-Ok.ensures.spots (c.in-Ok.ensures.planned c.none-chain.ensures) c.requires.heard)))

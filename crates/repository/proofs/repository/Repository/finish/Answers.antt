@@ -7,12 +7,10 @@ use Rattle.notice_chain.specs.Released.{Released, Spot, released_adapters}
 use Rattle.notice_chain.specs.declared.notice.Notice.{Notice}
 use Rattle.adapter_list.specs.Attached.{views_of}
 use Rattle.adapter_list.specs.Hearing.{AreKnown}
-use Rattle.adapter_list.specs.declared.hearers.Hearers.{Hearers}
-use Rattle.adapter_list.specs.Rounds.{RoundView, adapters_after_copies, round_copies, round_of}
+use Rattle.adapter_list.specs.Rounds.{RoundView, adapters_after_copies, round_copies}
 use Rattle.adapter_list.proofs.RoundLemmas.{adapters_after_copies-round_copies}
-use Rattle.links.specs.Holders.{HasNoCycle, above}
+use Rattle.links.specs.Holders.{above}
 use Rattle.links.specs.Laws.{touches_containment}
-use Rattle.links.specs.LegalSets.{IsLegalSet}
 use Rattle.links.specs.Links.{Links}
 use Rattle.links.specs.Plans as links
 use Rattle.models.specs.Legal.{kinds_of}
@@ -24,7 +22,7 @@ use Rattle.repository.specs.Leaving.{going_with}
 use Rattle.repository.specs.Views.{command_of}
 use Rattle.repository.specs.Repository.{KeepsFragments, state}
 use Rattle.repository.specs.State.{IsLegal, State, reads}
-use Rattle.repository.proofs.InsideLemmas.{known-after, made, no-memory, seen, unchanged}
+use Rattle.repository.proofs.InsideLemmas.{known-after, made, no-memory, round-here, seen, unchanged}
 use Rattle.repository.proofs.RememberedLemmas.{known-adapters_after_copies, some-kept}
 use Rattle.repository.proofs.PlanLemmas.{chain_err, changed_to, releases_of}
 use Rattle.repository.proofs.LegalLemmas.{stepped-legal}
@@ -34,86 +32,63 @@ none-go : {A B : Type 0} (q : Option (Box (Leaving A) B)) → is_some q ≡ fals
 none-go None h = refl
 none-go (Some x) h = absurd (let no : true ≡ false = h in cc)
 
--- the round of a chain, and the adapters that are remembered, by links that are the same
-made-round : (l m : Links) (ns : List Notice) (rs : List Listed) (r : RoundView) → r ≡ round_of (above l) ns rs → l ≡ m → r ≡ round_of (above m) ns rs
-made-round l m ns rs r is same = is ∙ ap (λ (k : Links). round_of (above k) ns rs) same
-
-known-here : (l m : Links) (rs : List Listed) (h : Hearers) → l ≡ m → AreKnown (above l) rs h → AreKnown (above m) rs h
-known-here l m rs h same known = subst (λ (k : Links). AreKnown (above k) rs h) same known
-
-pub round-requires : goal.round-requires
-round-requires g c =
-    let legal = c.self.invariant.legal.model.links in
-    record {
-      legal = subst IsLegalSet (sym c.reserve.ensures.links) legal.set;
-      no_cycle = subst HasNoCycle (sym c.reserve.ensures.links) legal.forest;
-      known = subst (λ (l : Links). AreKnown (above l) c.self.inside.adapters.0 c.self.inside.hearers) (sym c.reserve.ensures.links) c.self.invariant.hearers;
-    }
-
 pub reserve_round-requires : goal.reserve_round-requires
 reserve_round-requires g c =
     let s : State = state g.L.LinkStore.links c.self.inside in
-    record { round = ((reads s).above, c.args.chain, made-round _ _ c.args.chain c.self.inside.adapters.0 _ c.in-Ok-round.ensures.round c.reserve.ensures.links) }
+    record { round = ((reads s).above, c.requires.ready.2, round-here _ _ c.requires.ready.2 c.args.round c.self.view_is c.requires.ready.3) }
 
 -- if memory or capacity is refused, the view has not changed
 pub returns-in-Err : goal.returns-in-Err
-returns-in-Err g c = λ text change given. rw (← c.self.view_is, c.reserve.ensures.links, c.reserve.ensures.values) (no-memory _ _ text change _ _ _ _ _ c.self.view_is given)
+returns-in-Err g c = λ text change ns is given. rw (← c.self.view_is, c.reserve.ensures.links, c.reserve.ensures.values) (no-memory _ _ text change _ _ _ _ _ c.self.view_is given)
 
 pub invariant_of-self : goal.invariant_of-self
 invariant_of-self g c =
     unchanged g.L.LinkStore.links g.L.LinkStore.kinds c.self.inside c.reserve.new.store c.reserve.new.values c.self.inside.adapters c.self.inside.paths c.self.inside.hearers c.reserve.ensures.links (c.reserve.ensures.kinds (kinds_of c.self.inside.meta) c.self.invariant.kinds_are) c.reserve.ensures.values refl c.self.invariant.paths c.self.invariant.hearers c.self.invariant
 
-pub returns-in-Err-round : goal.returns-in-Err-round
-returns-in-Err-round g c = λ text change given. rw (← c.self.view_is, c.reserve.ensures.links, c.reserve.ensures.values) (no-memory _ _ text change _ _ _ _ _ c.self.view_is given)
-
-pub invariant_of-self-in-Err-round : goal.invariant_of-self-in-Err-round
-invariant_of-self-in-Err-round g c =
-    unchanged g.L.LinkStore.links g.L.LinkStore.kinds c.self.inside c.reserve.new.store c.reserve.new.values c.self.inside.adapters c.self.inside.paths c.round.new.hearers c.reserve.ensures.links (c.reserve.ensures.kinds (kinds_of c.self.inside.meta) c.self.invariant.kinds_are) c.reserve.ensures.values refl c.self.invariant.paths (known-here _ _ c.self.inside.adapters.0 c.round.new.hearers c.reserve.ensures.links c.round.ensures.known) c.self.invariant
-
 pub returns-in-Err-with_room : goal.returns-in-Err-with_room
-returns-in-Err-with_room g c = λ text change given. rw (← c.self.view_is, c.reserve.ensures.links, c.reserve.ensures.values) (no-memory _ _ text change _ _ _ _ _ c.self.view_is given)
+returns-in-Err-with_room g c = λ text change ns is given. rw (← c.self.view_is, c.reserve.ensures.links, c.reserve.ensures.values) (no-memory _ _ text change _ _ _ _ _ c.self.view_is given)
 
 pub invariant_of-self-in-Err-with_room : goal.invariant_of-self-in-Err-with_room
 invariant_of-self-in-Err-with_room g c =
-    unchanged g.L.LinkStore.links g.L.LinkStore.kinds c.self.inside c.reserve.new.store c.reserve.new.values c.self.inside.adapters c.self.inside.paths c.round.new.hearers c.reserve.ensures.links (c.reserve.ensures.kinds (kinds_of c.self.inside.meta) c.self.invariant.kinds_are) c.reserve.ensures.values refl c.self.invariant.paths (known-here _ _ c.self.inside.adapters.0 c.round.new.hearers c.reserve.ensures.links c.round.ensures.known) c.self.invariant
+    unchanged g.L.LinkStore.links g.L.LinkStore.kinds c.self.inside c.reserve.new.store c.reserve.new.values c.self.inside.adapters c.self.inside.paths c.self.inside.hearers c.reserve.ensures.links (c.reserve.ensures.kinds (kinds_of c.self.inside.meta) c.self.invariant.kinds_are) c.reserve.ensures.values refl c.self.invariant.paths c.self.invariant.hearers c.self.invariant
 
 pub returns-in-Err-reserve_round : goal.returns-in-Err-reserve_round
 returns-in-Err-reserve_round g c =
     let s : State = state g.L.LinkStore.links c.self.inside in
-    let reserved = c.in-Err-reserve_round.ensures (reads s).above c.args.chain (made-round _ _ c.args.chain c.self.inside.adapters.0 _ c.in-Ok-round.ensures.round c.reserve.ensures.links) in
-    λ text change given.
+    λ text change ns same given.
+    let reserved = c.in-Err-reserve_round.ensures (reads s).above ns (round-here _ _ ns c.args.round c.self.view_is same) in
     let p = seen s _ text change _ _ _ _ _ c.self.view_is given in
     rw (← c.self.view_is, c.reserve.ensures.links, c.reserve.ensures.values, reserved.kept) (chain_err s text change _ c.in-Err-reserve_round.refused p.proper p.asked p.allowed p.tells reserved.reason)
 
 pub invariant_of-self-in-Err-reserve_round : goal.invariant_of-self-in-Err-reserve_round
 invariant_of-self-in-Err-reserve_round g c =
     let s : State = state g.L.LinkStore.links c.self.inside in
-    let reserved = c.in-Err-reserve_round.ensures (reads s).above c.args.chain (made-round _ _ c.args.chain c.self.inside.adapters.0 _ c.in-Ok-round.ensures.round c.reserve.ensures.links) in
-    unchanged g.L.LinkStore.links g.L.LinkStore.kinds c.self.inside c.reserve.new.store c.reserve.new.values c.reserve_round.new.self c.self.inside.paths c.round.new.hearers c.reserve.ensures.links (c.reserve.ensures.kinds (kinds_of c.self.inside.meta) c.self.invariant.kinds_are) c.reserve.ensures.values reserved.kept c.self.invariant.paths (known-here _ _ c.self.inside.adapters.0 c.round.new.hearers c.reserve.ensures.links c.round.ensures.known) c.self.invariant
+    let reserved = c.in-Err-reserve_round.ensures (reads s).above c.requires.ready.2 (round-here _ _ c.requires.ready.2 c.args.round c.self.view_is c.requires.ready.3) in
+    unchanged g.L.LinkStore.links g.L.LinkStore.kinds c.self.inside c.reserve.new.store c.reserve.new.values c.reserve_round.new.self c.self.inside.paths c.self.inside.hearers c.reserve.ensures.links (c.reserve.ensures.kinds (kinds_of c.self.inside.meta) c.self.invariant.kinds_are) c.reserve.ensures.values reserved.kept c.self.invariant.paths c.self.invariant.hearers c.self.invariant
 
 pub returns-in-Err-apply : goal.returns-in-Err-apply
 returns-in-Err-apply g c =
     let s : State = state g.L.LinkStore.links c.self.inside in
-    let reserved = c.in-Ok-reserve_round.ensures (reads s).above c.args.chain (made-round _ _ c.args.chain c.self.inside.adapters.0 _ c.in-Ok-round.ensures.round c.reserve.ensures.links) in
-    λ text change given. rw (← c.self.view_is, c.in-Err-apply.ensures.links_kept, c.in-Err-apply.ensures.values_kept, c.reserve.ensures.links, c.reserve.ensures.values, reserved.kept) (no-memory _ _ text change _ _ _ _ _ c.self.view_is given)
+    let reserved = c.in-Ok-reserve_round.ensures (reads s).above c.requires.ready.2 (round-here _ _ c.requires.ready.2 c.args.round c.self.view_is c.requires.ready.3) in
+    λ text change ns is given. rw (← c.self.view_is, c.in-Err-apply.ensures.links_kept, c.in-Err-apply.ensures.values_kept, c.reserve.ensures.links, c.reserve.ensures.values, reserved.kept) (no-memory _ _ text change _ _ _ _ _ c.self.view_is given)
 
 pub invariant_of-self-in-Err-apply : goal.invariant_of-self-in-Err-apply
 invariant_of-self-in-Err-apply g c =
     let s : State = state g.L.LinkStore.links c.self.inside in
-    let p = seen s _ c.requires.ready.0 c.requires.ready.1 _ _ _ _ _ c.self.view_is c.requires.ready.2 in
+    let p = seen s _ c.requires.ready.0 c.requires.ready.1 _ _ _ _ _ c.self.view_is c.requires.ready.4 in
     let m = c.self.inside.meta in
-    let reserved = c.in-Ok-reserve_round.ensures (reads s).above c.args.chain (made-round _ _ c.args.chain c.self.inside.adapters.0 _ c.in-Ok-round.ensures.round c.reserve.ensures.links) in
+    let reserved = c.in-Ok-reserve_round.ensures (reads s).above c.requires.ready.2 (round-here _ _ c.requires.ready.2 c.args.round c.self.view_is c.requires.ready.3) in
     let old = above (g.L.LinkStore.links c.self.inside.store) in
     unchanged g.L.LinkStore.links g.L.LinkStore.kinds c.self.inside c.apply.new.store c.apply.new.values c.reserve_round.new.self c.forget.new.paths c.forget_if.new.self
     (c.in-Err-apply.ensures.links_kept ∙ c.reserve.ensures.links) (c.apply.ensures.kinds (kinds_of m) (c.reserve.ensures.kinds (kinds_of c.self.inside.meta) c.self.invariant.kinds_are) p.of_kind) (c.in-Err-apply.ensures.values_kept ∙ c.reserve.ensures.values) reserved.kept
     (subst (KeepsFragments (reads s)) (sym c.forget.ensures.paths) (some-kept (reads s) c.self.inside.paths (touches_containment (kinds_of m) (g.E.Edits.edits_of_links c.args.prepared.edits)) c.self.invariant.paths))
-    (c.forget_if.ensures old c.self.inside.adapters.0 (λ stay. c.forget.ensures.hearers old c.self.inside.adapters.0 (λ out. known-here _ _ c.self.inside.adapters.0 c.round.new.hearers c.reserve.ensures.links c.round.ensures.known))) c.self.invariant
+    (c.forget_if.ensures old c.self.inside.adapters.0 (λ stay. c.forget.ensures.hearers old c.self.inside.adapters.0 (λ out. c.self.invariant.hearers))) c.self.invariant
 
 pub deliver_and_release-told-requires : goal.deliver_and_release-told-requires
 deliver_and_release-told-requires g c =
     let s : State = state g.L.LinkStore.links c.self.inside in
     record {
-      fits = (c.in-Ok-reserve_round.ensures (reads s).above c.args.chain (made-round _ _ c.args.chain c.self.inside.adapters.0 _ c.in-Ok-round.ensures.round c.reserve.ensures.links)).fits;
+      fits = (c.in-Ok-reserve_round.ensures (reads s).above c.requires.ready.2 (round-here _ _ c.requires.ready.2 c.args.round c.self.view_is c.requires.ready.3)).fits;
       room = subst (λ (n : ℕ). IfSome c.in-Ok-with_room.leaving (λ x. HasRoom n x.value)) c.told_len.ensures.len c.in-Ok-with_room.ensures.room;
     }
 
@@ -124,15 +99,14 @@ returns g c =
     let es = g.E.Edits.edits_of_links q.edits in
     let vs = g.E.Edits.edits_of_values q.edits in
     let up = (reads s).above in
-    let ns : List Notice = c.args.chain in
-    let is = made-round _ _ ns s.adapters _ c.in-Ok-round.ensures.round c.reserve.ensures.links in
+    λ text change ns same given.
+    let is = round-here _ _ ns c.args.round c.self.view_is same in
     let reserved = c.in-Ok-reserve_round.ensures up ns is in
-    λ text change given.
     let p = seen s _ text change _ _ _ _ _ c.self.view_is given in
     let values = c.in-Ok-apply.ensures.values ∙ ap (λ (v : ValuesState). values_after_edits v vs) c.reserve.ensures.values ∙ p.values_made in
     let made_links = c.in-Ok-apply.ensures.links ∙ ap (λ (l : Links). links.links_after_edits l es) c.reserve.ensures.links ∙ p.links_made in
     let rs : List Listed = c.reserve_round.new.self.0 in
-    let round : RoundView = c.in-Ok-round.round in
+    let round : RoundView = c.args.round in
     let delivery : adapters_after_copies round.copies rs ≡ tell_chain up ns s.adapters = ap (λ (r : RoundView). adapters_after_copies r.copies rs) is ∙ ap (adapters_after_copies (round_copies up ns s.adapters)) reserved.kept ∙ adapters_after_copies-round_copies up ns s.adapters in
     let ss = spots_in c.in-Ok-with_room.leaving in
     let go : ss ≡ going_with (reads s) s.adapters change = c.in-Ok-with_room.ensures.spots ∙ p.spots in
@@ -151,23 +125,24 @@ invariant_of-self-2 g c =
     let q = c.args.prepared in
     let es = g.E.Edits.edits_of_links q.edits in
     let vs = g.E.Edits.edits_of_values q.edits in
-    let p = seen s _ c.requires.ready.0 c.requires.ready.1 q.answer q.spots.items es vs c.args.chain c.self.view_is c.requires.ready.2 in
+    let ns : List Notice = c.requires.ready.2 in
+    let p = seen s _ c.requires.ready.0 c.requires.ready.1 q.answer q.spots.items es vs ns c.self.view_is c.requires.ready.4 in
     let m = c.self.inside.meta in
     let text = c.requires.ready.0 in
     let change : Change = c.requires.ready.1 in
-    let reserved = c.in-Ok-reserve_round.ensures (reads s).above c.args.chain (made-round _ _ c.args.chain c.self.inside.adapters.0 _ c.in-Ok-round.ensures.round c.reserve.ensures.links) in
+    let reserved = c.in-Ok-reserve_round.ensures (reads s).above c.requires.ready.2 (round-here _ _ c.requires.ready.2 c.args.round c.self.view_is c.requires.ready.3) in
     let new = above (g.L.LinkStore.links c.apply.new.store) in
     let rs : List Listed = c.reserve_round.new.self.0 in
-    let copies = c.in-Ok-round.round.copies in
+    let copies = c.args.round.copies in
     let edited = c.in-Ok-apply.ensures.links ∙ ap (λ (l : Links). links.links_after_edits l es) c.reserve.ensures.links in
     let valued = c.in-Ok-apply.ensures.values ∙ ap (λ (v : ValuesState). values_after_edits v vs) c.reserve.ensures.values in
-    let legal = stepped-legal _ _ (command_of text change) _ (subst IsLegal c.self.view_is c.self.invariant.legal) (returns g c text change c.requires.ready.2) in
-    let told = known-adapters_after_copies (above (g.L.LinkStore.links c.self.inside.store)) copies c.self.inside.adapters.0 c.round.new.hearers (known-here _ _ c.self.inside.adapters.0 c.round.new.hearers c.reserve.ensures.links c.round.ensures.known) in
-    let stays = known-after g.L.LinkStore.links g.L.LinkStore.kinds c.self.inside c.apply.new.store c.apply.new.values c.deliver_and_release-told.new.self c.forget.new.paths c.forget_if.new.self text change q.answer q.spots.items es vs c.args.chain p edited legal c.self.invariant
-    (adapters_after_copies copies c.self.inside.adapters.0) c.round.new.hearers told in
-    made g.L.LinkStore.links g.L.LinkStore.kinds c.self.inside c.apply.new.store c.apply.new.values c.deliver_and_release-told.new.self c.forget.new.paths c.forget_if.new.self text change q.answer q.spots.items es vs c.args.chain p edited legal c.self.invariant
+    let legal = stepped-legal _ _ (command_of text change) _ (subst IsLegal c.self.view_is c.self.invariant.legal) (returns g c text change ns c.requires.ready.3 c.requires.ready.4) in
+    let told = known-adapters_after_copies (above (g.L.LinkStore.links c.self.inside.store)) copies c.self.inside.adapters.0 c.self.inside.hearers c.self.invariant.hearers in
+    let stays = known-after g.L.LinkStore.links g.L.LinkStore.kinds c.self.inside c.apply.new.store c.apply.new.values c.deliver_and_release-told.new.self c.forget.new.paths c.forget_if.new.self text change q.answer q.spots.items es vs ns p edited legal c.self.invariant
+    (adapters_after_copies copies c.self.inside.adapters.0) c.self.inside.hearers told in
+    made g.L.LinkStore.links g.L.LinkStore.kinds c.self.inside c.apply.new.store c.apply.new.values c.deliver_and_release-told.new.self c.forget.new.paths c.forget_if.new.self text change q.answer q.spots.items es vs ns p edited legal c.self.invariant
     (c.apply.ensures.kinds (kinds_of m) (c.reserve.ensures.kinds (kinds_of c.self.inside.meta) c.self.invariant.kinds_are) p.of_kind) valued c.forget.ensures.paths
     (c.forget_if.ensures new c.deliver_and_release-told.new.self.0 (λ stay. c.forget.ensures.hearers new c.deliver_and_release-told.new.self.0 (λ out.
     let nobody : spots_in c.in-Ok-with_room.leaving ≡ [] = none-go c.in-Ok-with_room.leaving (sym c.is_some.ensures ∙ stay) in
     let others : c.deliver_and_release-told.new.self.0 ≡ adapters_after_copies copies c.self.inside.adapters.0 = c.deliver_and_release-told.ensures.others ∙ ap (λ (ss : List Spot). (leavers ss copies rs).others) nobody ∙ ap (adapters_after_copies copies) reserved.kept in
-    subst (λ (qs : List Listed). AreKnown new qs c.round.new.hearers) (sym others) (stays out))))
+    subst (λ (qs : List Listed). AreKnown new qs c.self.inside.hearers) (sym others) (stays out))))

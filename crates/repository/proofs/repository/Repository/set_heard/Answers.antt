@@ -17,6 +17,7 @@ use Rattle.change_plans.specs.declared.planned.Finding.TheVariants as finding
 use Rattle.change_plans.proofs.ValueLemmas.{is-plain}
 use Rattle.repository.specs.State.{State, reads}
 use Rattle.repository.specs.Prepared.{IsReady}
+use Rattle.repository.proofs.InsideLemmas.{round-here, seen}
 use Rattle.repository.proofs.PlanLemmas.{free-as-found, out_of_memory, refused-as-found}
 use Rattle.repository.specs.declared.reply.Answer.TheVariants as answer
 use Rattle.repository.proofs.ValueLemmas.{none-goes, ready-of}
@@ -47,12 +48,20 @@ ready s x e v ss vs ns is early attribute none plan =
     ready-of s x [] c answer.Done ss [] vs ns true is early tt (λ rs text _. refl) (none ∙ none-goes (reading x) s.adapters c (is-plain (reading x) c (ap (λ (m : Model). not (shape m.metamodel e.feature).is_reference) is ∙ ap not attribute)))
     (finding.Nothing, plan) (λ (no : true ≡ false). absurd (false≢true (sym no)))
 
+pub returns-in-Err-round : goal.returns-in-Err-round
+returns-in-Err-round g c =
+    let change : Change = At c.args.end (Set c.args.value) in
+    let free = free-as-found c.args.self.now c.model-model.result change _ c.model-model.ensures c.attribute_refusal.ensures c.in_default.is in
+    rw (c.round.ensures.kept) (out_of_memory c.args.self.now [] change tt free.0)
+
 pub finish-requires : goal.finish-requires
 finish-requires g c =
     let asked = subst (λ (m : Model). early_refusal (reading m) (At c.args.end (Set c.args.value)) ≡ None) c.model-model.ensures (none-else_by _ _ (sym c.attribute_refusal.ensures ∙ c.in_default.is)).0 in
-    record { ready = ([], At c.args.end (Set c.args.value), ready c.args.self.now c.model-model.result c.args.end c.args.value c.new-spots.result.items c.in-Ok.edits c.in-Ok.chain c.model-model.ensures asked c.requires.attribute c.new-spots.ensures.items c.in-Ok.ensures) }
+    let kept = c.round.ensures.kept in
+    record { ready = ([], At c.args.end (Set c.args.value), c.in-Ok.plan.1, round-here _ _ c.in-Ok.plan.1 _ kept c.in-Ok-round.ensures.round, seen _ _ [] (At c.args.end (Set c.args.value)) answer.Done _ _ _ _ kept (ready c.args.self.now c.model-model.result c.args.end c.args.value c.new-spots.result.items c.in-Ok.plan.0 c.in-Ok.plan.1 c.model-model.ensures asked c.requires.attribute c.new-spots.ensures.items c.in-Ok.ensures)) }
 
-pub returns-in-Ok : goal.returns-in-Ok
-returns-in-Ok g c =
+pub returns : goal.returns
+returns g c =
     let asked = subst (λ (m : Model). early_refusal (reading m) (At c.args.end (Set c.args.value)) ≡ None) c.model-model.ensures (none-else_by _ _ (sym c.attribute_refusal.ensures ∙ c.in_default.is)).0 in
-    c.finish.ensures [] (At c.args.end (Set c.args.value)) (ready c.args.self.now c.model-model.result c.args.end c.args.value c.new-spots.result.items c.in-Ok.edits c.in-Ok.chain c.model-model.ensures asked c.requires.attribute c.new-spots.ensures.items c.in-Ok.ensures)
+    let kept = c.round.ensures.kept in
+    rw (← kept) (c.finish.ensures [] (At c.args.end (Set c.args.value)) c.in-Ok.plan.1 (round-here _ _ c.in-Ok.plan.1 _ kept c.in-Ok-round.ensures.round) (seen _ _ [] (At c.args.end (Set c.args.value)) answer.Done _ _ _ _ kept (ready c.args.self.now c.model-model.result c.args.end c.args.value c.new-spots.result.items c.in-Ok.plan.0 c.in-Ok.plan.1 c.model-model.ensures asked c.requires.attribute c.new-spots.ensures.items c.in-Ok.ensures)))

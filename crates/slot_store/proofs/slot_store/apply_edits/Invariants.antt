@@ -4,7 +4,7 @@ use Rattle.links.specs.Plans.{HasPlanOfKind, PlanFits, links_after_edits}
 use Rattle.node_slots.specs.Cells.{room}
 use Rattle.node_slots.specs.Growth.{HasRoom}
 use Rattle.slot_store.specs.CellLinks.{IsStore, IsStoreOfKind, store_links}
-use Rattle.slot_store.proofs.slot_store.apply_rows.Given as goal
+use Rattle.slot_store.proofs.slot_store.apply_edits.Given as goal
 
 -- the edits that are left fit, have capacity, and lead to the same links as all edits
 abbrev pub invariant-loop-edit : goal.invariant-loop-edit
@@ -15,5 +15,5 @@ invariant-loop-edit l = record {
   fits : PlanFits (store_links l.rows) (into_iter_items l.edit-iterator);
   kind : HasPlanOfKind (IsStoreOfKind l.rows) (into_iter_items l.edit-iterator);
   room : HasRoom (room l.rows) (into_iter_items l.edit-iterator);
-  rest : links_after_edits (store_links l.rows) (into_iter_items l.edit-iterator) ≡ links_after_edits (store_links l.fn.rows) l.fn.plan;
+  rest : links_after_edits (store_links l.rows) (into_iter_items l.edit-iterator) ≡ links_after_edits (store_links l.fn.rows) l.fn.edits.items;
 }

@@ -9,7 +9,7 @@ use Rattle.slot_store.specs.CellLinks.{IsStoreOfKind, store_links}
 use Rattle.slot_store.proofs.RoomLemmas.{fits_object}
 use Rattle.slot_store.proofs.StoreLemmas.{kept_once}
 use Rattle.slot_store.proofs.ApplyLemmas.{edit_fits, edit_kept, edit_kind, edit_rest, kinds_same, room_first, room_rest}
-use Rattle.slot_store.proofs.slot_store.apply_rows.Goals as goal
+use Rattle.slot_store.proofs.slot_store.apply_edits.Goals as goal
 
 pub edit_rows-requires-clause-distinct : goal.edit_rows-requires-clause-distinct
 edit_rows-requires-clause-distinct c = kept_once c.make_guess-guess.new.rows c.make_guess-guess.ensures.kept
